@@ -1,0 +1,4 @@
+-- lemmas
+pub mod GuardedParts
+pub mod EffectRanges
+pub mod WiredFamilies
