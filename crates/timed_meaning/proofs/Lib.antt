@@ -1,0 +1,11 @@
+pub mod Parts
+pub mod Earlier
+pub mod Numbers
+pub mod Examples
+pub mod Inside
+pub mod Reading
+pub mod Fitting
+pub mod Settling
+pub mod Finding
+pub mod Running
+pub mod Afterwards

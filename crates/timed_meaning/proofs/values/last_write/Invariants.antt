@@ -1,0 +1,6 @@
+use Rattle.std.proofs.Common.{◌≡◌, reverse, take}
+use Rattle.timed_meaning.specs.Values.{last_write, landed}
+use Rattle.timed_meaning.proofs.values.last_write.Given as goal
+
+abbrev pub invariant-loop-write : goal.invariant-loop-write
+invariant-loop-write l = l.best ≡ last_write l.cell (landed l.cycle (reverse (take l.write-index l.writes)))

@@ -1,0 +1,5 @@
+pub mod Times
+pub mod Values
+pub mod Block
+pub mod Program
+pub mod Evaluator
