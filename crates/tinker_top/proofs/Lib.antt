@@ -1,0 +1,5 @@
+pub mod Adding
+pub mod Issue
+pub mod Plain
+pub mod BlockWords
+pub mod HexLines
