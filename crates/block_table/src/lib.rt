@@ -1,0 +1,17 @@
+// The block table of an image: where each block begins and how many operations it has.
+//
+// It stands on `tnk_base`. `Table::new` promises the first broken of the table's rules (F6 to F8) with its row, or a table
+// with just these rows; the look-ups promise the rows. The rule on the words between blocks (F9) is defined here too
+// (specs/Padding.antt), so that the checker and the linker share it.
+#![tactic(auto)]
+
+mod rules;
+mod table;
+#[cfg(test)]
+mod tests;
+
+pub use rules::{TableFault, TableRule};
+pub use table::Table;
+
+/// Words of a page.
+pub const PAGE: u32 = 512;
