@@ -13,7 +13,7 @@ same_inside x y e = cc
 -- ---- one block
 
 -- the state and the entry, where the program goes on
-abbrev stands : Next → Option (State × ℕ)
+abbrev pub stands : Next → Option (State × ℕ)
 stands (Goes to s) = Some (s, to)
 stands (Ends e j out mem) = None
 
@@ -26,7 +26,7 @@ module _ (p : Program) (input : List ℕ) (limit : ℕ) where
   rest_of : (n k entry : ℕ) (s : State) → mean_from p input limit (suc n) k entry s ≡ rest n k (advance p input limit entry s)
   rest_of n k entry s = elim (advance p input limit entry s) as (λ x. (elim x [ Goes to s' ↦ mean_from p input limit n (k + 1) to s' | Ends e j out mem ↦ record { end = e; blocks = k + j; output = out; memory = mem } ]) ≡ rest n k x) [ Goes to s' ↦ refl | Ends e j out mem ↦ refl ]
 
-  abbrev stands_from : Option (State × ℕ) → Option (State × ℕ)
+  abbrev pub stands_from : Option (State × ℕ) → Option (State × ℕ)
   stands_from None = None
   stands_from (Some at) = stands (advance p input limit at.1 at.0)
 
@@ -34,7 +34,7 @@ module _ (p : Program) (input : List ℕ) (limit : ℕ) where
   stands_is (Goes to s) = refl
   stands_is (Ends e j out mem) = refl
 
-  after-suc : (b : ℕ) → after p input limit (suc b) ≡ stands_from (after p input limit b)
+  pub after-suc : (b : ℕ) → after p input limit (suc b) ≡ stands_from (after p input limit b)
   after-suc b = go (after p input limit b)
     where
       go : (o : Option (State × ℕ)) → ◌≡◌ {A = Option (State × ℕ)} (elim o [ None ↦ None | Some at ↦ elim (advance p input limit at.1 at.0) [ Goes entry s ↦ Some (s, entry) | Ends e k out mem ↦ None ] ]) (stands_from o)

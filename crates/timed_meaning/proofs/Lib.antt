@@ -9,3 +9,4 @@ pub mod Settling
 pub mod Finding
 pub mod Running
 pub mod Afterwards
+pub mod Counting

@@ -1,8 +1,10 @@
 // What a program means: its blocks one after another.
 ghost use Rattle.std.specs.Prelude.{◌≡◌, ◌<◌, ◌≤◌, ◌^◌, ℕ, length, slice_get, option_and_then, vec_len, IfOk, IfSome};
+ghost use Rattle.std.specs.Option.{ForSome};
 ghost use Rattle.timed_meaning.specs.Values.{State};
 ghost use Rattle.timed_meaning.specs.Block.{block as block_ending};
 ghost use Rattle.timed_meaning.specs.Program.{block_of, program_of, first_state, block_at, follows, advance, mean, meaning_of, IsInRange, IsBlockInRange};
+ghost use Rattle.timed_meaning.specs.Cycles.{cycles_by, cycles_at, cycles as cycles_of_run};
 ghost use Rattle.timed_meaning.specs.Evaluator.{state_of, state_with, start_with, ended_at, next_of};
 
 use super::cells::Cells;
@@ -103,7 +105,19 @@ fn trapped(kind: TrapKind, block: u32, detail: u32) -> End
     })
 }
 
-/// Runs the block with this entry, if there is one.
+/// The cycles that a block takes, by its trap, if there was one, and how many operations issued before that.
+fn taken(block: &TimedBlock, trap: Option<Trap>, issued: u32) -> u64
+    requires { ForSome trap (λ _. issued < length block.now.ops.items) }
+    ensures cycles { (s : State) (answer : Answer) → result ≡ cycles_by (block_of block.now) (ended_at trap answer issued s) }
+    ensures bound { result ≤ 2 ^ 32 }
+{
+    match trap {
+        None => block.end as u64,
+        Some(_) => block.ops[issued as usize].at as u64 + 1,
+    }
+}
+
+/// Runs the block with this entry, if there is one. Gives what comes of it and the cycles that it takes.
 fn step(
     cells: &mut Cells,
     work: &mut Work,
@@ -111,19 +125,23 @@ fn step(
     input: &[u8],
     limit: u32,
     entry: u32,
-) -> Result<Outcome, AllocError>
+) -> Result<(Outcome, u64), AllocError>
     requires program { IsInRange (program_of program.now) }
     requires memory { length cells.old.memory.items ≤ 2 ^ 20 }
-    ensures next { IfOk result (λ outcome. next_of outcome (state_with cells.new work.new)
+    ensures next { IfOk result (λ came. next_of came.0 (state_with cells.new work.new)
         ≡ advance (program_of program.now) input.now limit entry (state_with cells.old work.old)) }
+    ensures cycles { IfOk result (λ came. came.1
+        ≡ cycles_at (program_of program.now) input.now limit entry (state_with cells.old work.old)) }
+    ensures bound { IfOk result (λ came. came.1 ≤ 2 ^ 32) }
     ensures memory { IfOk result (λ _. length cells.new.memory.items ≡ length cells.old.memory.items) }
 {
     let Some(row) = find_block(program, entry) else {
-        return Ok(Outcome::Goes(entry));
+        return Ok((Outcome::Goes(entry), 0));
     };
     let block = &program.blocks[row];
     let trap = run_block(cells, work, input, limit, block)?;
-    Ok(follow(program, block, trap, work.answer))
+    let cycles = taken(block, trap, work.count);
+    Ok((follow(program, block, trap, work.answer), cycles))
 }
 
 /// What a program comes to in at most `bound` blocks, 0 to 1,000,000, with `input` from its first byte on. An `outb`
@@ -142,17 +160,40 @@ pub fn meaning(
     requires bound { bound ≤ 1000000 }
     ensures { IfOk result (λ meant. meaning_of meant ≡ mean (program_of program.now) input.now limit bound) }
 {
+    let (meant, _) = meant_with_cycles(alloc, program, input, limit, bound)?;
+    Ok(meant)
+}
+
+/// What a program comes to, as `meaning`, and the cycles that it takes.
+///
+/// A block takes its `end` cycles, also where it halts or goes to no entry. One that another trap stops takes the cycles
+/// up to that in which the trapping operation issued, which counts too.
+pub fn meant_with_cycles(
+    alloc: Global,
+    program: &Program,
+    input: &[u8],
+    limit: u32,
+    bound: u32,
+) -> Result<(Meant, u64), NoMemory>
+    requires program { IsInRange (program_of program.now) }
+    requires bound { bound ≤ 1000000 }
+    ensures meaning { IfOk result (λ both. meaning_of both.0 ≡ mean (program_of program.now) input.now limit bound) }
+    ensures cycles { IfOk result (λ both. both.1 ≡ cycles_of_run (program_of program.now) input.now limit bound) }
+{
     let mut cells = start(alloc, program)?;
     let mut work = Work::new(alloc);
     let mut entry = program.entry;
+    let mut cycles = 0;
     for ended in 0..bound {
-        match step(&mut cells, &mut work, program, input, limit, entry)? {
+        let (outcome, taken) = step(&mut cells, &mut work, program, input, limit, entry)?;
+        cycles += taken;
+        match outcome {
             Outcome::Goes(to) => entry = to,
-            Outcome::Ends(end) => return Ok(meant(end, ended + 1, cells, work)),
-            Outcome::Stops(end) => return Ok(meant(end, ended, cells, work)),
+            Outcome::Ends(end) => return Ok((meant(end, ended + 1, cells, work), cycles)),
+            Outcome::Stops(end) => return Ok((meant(end, ended, cells, work), cycles)),
         }
     }
-    Ok(meant(End::Bound, bound, cells, work))
+    Ok((meant(End::Bound, bound, cells, work), cycles))
 }
 
 fn meant(end: End, blocks: u32, cells: Cells, work: Work) -> Meant

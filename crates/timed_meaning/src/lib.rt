@@ -2,13 +2,15 @@
 //
 // It stands on `operation`, which says what one operation does. Here are the times of a block's operations
 // (specs/Times.antt), the value of a place at a time, looked up in a list of timed writes (Values), what a block does
-// (Block) and what a program does (Program). `meaning` is the plain evaluator: it runs one block after another, and its
-// contract says that it answers what `mean` of Program.antt defines. The last functions hold laws of these definitions.
+// (Block), what a program does (Program) and how many cycles that takes (Cycles). `meaning` is the plain evaluator: it
+// runs one block after another, and its contract says that it answers what `mean` of Program.antt defines.
+// `meant_with_cycles` answers the cycles too. The last functions hold laws of these definitions.
 #![tactic(auto)]
 
 ghost use Rattle.timed_meaning.specs.Values.{LooksBackFromEarlier};
 ghost use Rattle.timed_meaning.specs.Block.{RunsInParts};
 ghost use Rattle.timed_meaning.specs.Program.{GoesOnFromAfter, EndsByItsBound};
+ghost use Rattle.timed_meaning.specs.Cycles.{TakesNoMoreOnceEnded};
 
 mod cells;
 mod evaluate;
@@ -18,7 +20,7 @@ mod settle;
 mod tests;
 mod values;
 
-pub use evaluate::meaning;
+pub use evaluate::{meaning, meant_with_cycles};
 use operation::{End, Guarded, Place};
 
 /// What holds one value: a register, predicate or target, or a byte of memory by its address.
@@ -101,4 +103,9 @@ pub fn goes_on_from_after()
 /// A run ends by its bound exactly where the program has no end within it.
 pub fn ends_by_its_bound()
     ensures { EndsByItsBound }
+{}
+
+/// A run that has ended takes no more cycles under a greater bound.
+pub fn takes_no_more_once_ended()
+    ensures { TakesNoMoreOnceEnded }
 {}

@@ -25,6 +25,7 @@ fn block(
     entry: u32,
     next: Option<u32>,
     ops: &[TimedOp],
+    end: u32,
 ) -> Result<TimedBlock, AllocError>
     ensures range { IfOk result (λ b. IsBlockInRange (block_of b)) }
     ensures entry { IfOk result (λ b. b.entry ≡ entry) }
@@ -40,24 +41,25 @@ fn block(
         entry,
         next,
         ops: listed,
-        end: 0,
+        end,
     })
 }
 
-/// A program of two blocks, at 0 and at 8, with eight bytes of memory.
+/// A program of two blocks, at 0 and at 8, with eight bytes of memory. The second block puts r1 out and halts with it.
 fn program(
     rt: &impl Abort,
     alloc: Global,
     init: &[u8],
     first: &[TimedOp],
-    second: &[TimedOp],
+    first_end: u32,
 ) -> Result<Program, AllocError>
     ensures { IfOk result (λ p. IsInRange (program_of p)) }
 {
     assert!(rt; init.len() <= 8);
+    let second = [timed(Op::Outb(1), 0, 1), timed(Op::Halt(1), 0, 1)];
     let mut blocks = Vec::new(alloc);
-    blocks.push(block(rt, alloc, 0, Some(8), first)?)?;
-    blocks.push(block(rt, alloc, 8, None, second)?)?;
+    blocks.push(block(rt, alloc, 0, Some(8), first, first_end)?)?;
+    blocks.push(block(rt, alloc, 8, None, &second, 1)?)?;
     Ok(Program {
         blocks,
         entry: 0,
@@ -81,44 +83,53 @@ fn ended(end: End) -> (&'static str, u32, u32) {
     }
 }
 
+/// A program's first block, its end, and what a run of it comes to.
 #[derive(Drop)]
 struct Case<'a> {
     init: &'a [u8],
     first: &'a [TimedOp],
+    first_end: u32,
     limit: u32,
     end: (&'static str, u32, u32),
     blocks: u32,
     output: &'a [u8],
     memory: &'a [u8],
+    cycles: u64,
 }
 
-/// Runs at most three blocks on an input of one byte, 7. The second block puts r1 out and halts with it.
-fn check(rt: &impl Abort, alloc: Global, case: &Case<'_>) -> Result<(), Fail> {
-    let second = [timed(Op::Outb(1), 0, 1), timed(Op::Halt(1), 0, 1)];
-    let program = program(rt, alloc, case.init, case.first, &second)?;
-    let meant = meaning(alloc, &program, &[7], case.limit, 3)?;
+fn compare(rt: &impl Abort, meant: Meant, case: &Case<'_>) {
     assert_eq!(rt; ended(meant.end), case.end);
     assert_eq!(rt; meant.blocks, case.blocks);
     assert_eq!(rt; meant.output.as_slice(), case.output);
     assert_eq!(rt; meant.memory.as_slice(), case.memory);
+}
+
+/// Runs at most three blocks on an input of one byte, 7.
+fn check(rt: &impl Abort, alloc: Global, case: &Case<'_>) -> Result<(), Fail> {
+    let program = program(rt, alloc, case.init, case.first, case.first_end)?;
+    compare(rt, meaning(alloc, &program, &[7], case.limit, 3)?, case);
+    let (meant, cycles) = meant_with_cycles(alloc, &program, &[7], case.limit, 3)?;
+    compare(rt, meant, case);
+    assert_eq!(rt; cycles, case.cycles);
     Ok(())
 }
 
 #[test]
 fn a_block_does_what_was_worked_out(rt: HostRuntime) -> Result<(), Fail> {
     let alloc = rt.alloc();
-    let halt = timed(Op::Halt(0), 5, 1);
     let letter = timed(Op::AluImm(AluKind::Add, 1, 0, 65), 0, 1);
     let cases = [
         // A register is put out.
         Case {
             init: &[],
-            first: &[letter, timed(Op::Outb(1), 1, 1), halt],
+            first: &[letter, timed(Op::Outb(1), 1, 1), timed(Op::Halt(0), 2, 1)],
+            first_end: 3,
             limit: 10,
             end: ("halted", 0, 0),
             blocks: 1,
             output: &[65],
             memory: &[0; 8],
+            cycles: 3,
         },
         // A read in a load's shadow finds the old value.
         Case {
@@ -129,28 +140,49 @@ fn a_block_does_what_was_worked_out(rt: HostRuntime) -> Result<(), Fail> {
                 timed(Op::AluImm(AluKind::Add, 2, 1, 0), 2, 1),
                 timed(Op::Outb(2), 3, 1),
                 timed(Op::Outb(1), 4, 1),
-                halt,
+                timed(Op::Halt(0), 5, 1),
             ],
+            first_end: 6,
             limit: 10,
             end: ("halted", 0, 0),
             blocks: 1,
             output: &[65, 66],
             memory: &[66, 0, 0, 0, 0, 0, 0, 0],
+            cycles: 6,
         },
-        // The store before a trap lands, and the one after it is never made.
+        // The store before a trap lands, and the one after it is never made. The pause after the trap doesn't pass.
         Case {
             init: &[],
             first: &[
                 timed(Op::AluImm(AluKind::Add, 1, 0, 7), 0, 2),
-                timed(Op::Store(Size::Word, 1, 0, 0), 2, 5),
+                timed(Op::Store(Size::Word, 1, 0, 0), 2, 2),
                 timed(Op::Div(2, 1, 0), 2, 16),
-                timed(Op::Store(Size::Word, 1, 0, 4), 2, 5),
+                timed(Op::Store(Size::Word, 1, 0, 4), 2, 2),
+                timed(Op::Halt(0), 15, 3),
             ],
+            first_end: 18,
             limit: 10,
             end: ("DivideByZero", 0, 7),
             blocks: 0,
             output: &[],
             memory: &[7, 0, 0, 0, 0, 0, 0, 0],
+            cycles: 3,
+        },
+        // The first operation traps.
+        Case {
+            init: &[],
+            first: &[
+                timed(Op::Load(Size::Word, 1, 0, 4096), 0, 2),
+                timed(Op::Div(2, 0, 0), 1, 8),
+                timed(Op::Halt(0), 8, 1),
+            ],
+            first_end: 9,
+            limit: 10,
+            end: ("OutOfRange", 0, 4096),
+            blocks: 0,
+            output: &[],
+            memory: &[0; 8],
+            cycles: 1,
         },
         // The output is full.
         Case {
@@ -159,13 +191,15 @@ fn a_block_does_what_was_worked_out(rt: HostRuntime) -> Result<(), Fail> {
                 letter,
                 timed(Op::Outb(1), 1, 1),
                 timed(Op::Outb(1), 2, 1),
-                halt,
+                timed(Op::Halt(0), 3, 1),
             ],
+            first_end: 4,
             limit: 1,
             end: ("OutputFull", 0, 65),
             blocks: 0,
             output: &[65],
             memory: &[0; 8],
+            cycles: 3,
         },
     ];
     for case in &cases {
@@ -182,11 +216,13 @@ fn blocks_follow_as_was_worked_out(rt: HostRuntime) -> Result<(), Fail> {
         Case {
             init: &[],
             first: &[timed(Op::Inb(1), 0, 1)],
+            first_end: 1,
             limit: 10,
             end: ("halted", 0, 7),
             blocks: 2,
             output: &[7],
             memory: &[0; 8],
+            cycles: 2,
         },
         // `brl` writes the next block's entry.
         Case {
@@ -196,11 +232,25 @@ fn blocks_follow_as_was_worked_out(rt: HostRuntime) -> Result<(), Fail> {
                 timed(Op::Brl(2, 1), 1, 1),
                 timed(Op::Mvr(1, 2), 2, 1),
             ],
+            first_end: 3,
             limit: 10,
             end: ("halted", 0, 8),
             blocks: 2,
             output: &[8],
             memory: &[0; 8],
+            cycles: 4,
+        },
+        // The second block traps after the first has ended.
+        Case {
+            init: &[],
+            first: &[timed(Op::Inb(1), 0, 1)],
+            first_end: 1,
+            limit: 0,
+            end: ("OutputFull", 8, 7),
+            blocks: 1,
+            output: &[],
+            memory: &[0; 8],
+            cycles: 2,
         },
         // A branch to an address that is no entry.
         Case {
@@ -210,21 +260,25 @@ fn blocks_follow_as_was_worked_out(rt: HostRuntime) -> Result<(), Fail> {
                 timed(Op::Mvb(1, 1), 1, 1),
                 timed(Op::Bru(1), 2, 1),
             ],
+            first_end: 3,
             limit: 10,
             end: ("BadTarget", 0, 1),
             blocks: 1,
             output: &[],
             memory: &[0; 8],
+            cycles: 3,
         },
         // A block that branches to itself runs as often as the bound says.
         Case {
             init: &[],
             first: &[timed(Op::Pbr(1, 0), 0, 1), timed(Op::Bru(1), 1, 1)],
+            first_end: 2,
             limit: 10,
             end: ("bound", 0, 0),
             blocks: 3,
             output: &[],
             memory: &[0; 8],
+            cycles: 6,
         },
     ];
     for case in &cases {

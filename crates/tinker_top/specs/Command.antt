@@ -12,6 +12,7 @@ use Rattle.tinker_top.specs.declared.image.Refusal.{Refusal}
 abbrev pub image_limit : ℕ
 image_limit = 4194304
 
+-- the report of a program, or the refusal of its image
 abbrev pub run_read : List ℕ → Result Program Refusal → Outcome
 run_read name (Ok program) = says 0 (usual_report program)
 run_read name (Err why) = refused name (title why)

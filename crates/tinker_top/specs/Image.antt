@@ -34,12 +34,15 @@ pages bytes = number_at 2 6 bytes
 abbrev pub blocks : List ℕ → ℕ
 blocks bytes = number_at 4 8 bytes
 
+-- the entry at which the program begins
 abbrev pub program_entry : List ℕ → ℕ
 program_entry bytes = number_at 4 12 bytes
 
+-- the bytes of data memory
 abbrev pub memory_size : List ℕ → ℕ
 memory_size bytes = number_at 4 16 bytes
 
+-- the initial bytes of data memory
 abbrev pub initial_size : List ℕ → ℕ
 initial_size bytes = number_at 4 20 bytes
 
@@ -51,15 +54,19 @@ given_length bytes = 39 + 6 * blocks bytes + initial_size bytes + 4096 * pages b
 abbrev pub width : List ℕ → ℕ
 width bytes = slice_index bytes 24
 
+-- how many units of a kind there are
 abbrev pub units : List ℕ → UnitKind → ℕ
 units bytes kind = slice_index bytes (25 + unit_number kind)
 
+-- the latency of a kind, in cycles
 abbrev pub latency : List ℕ → LatKind → ℕ
 latency bytes kind = slice_index bytes (30 + latency_number kind)
 
+-- a number from low to high
 abbrev pub is_between : ℕ → ℕ → ℕ → Bool
 is_between low high n = nat_le low n && nat_le n high
 
+-- all numbers of the description are in range
 abbrev pub has_description : List ℕ → Bool
 has_description bytes =
     is_between 1 16 (width bytes)
@@ -69,6 +76,7 @@ has_description bytes =
 abbrev pub row_entry : List ℕ → ℕ
 row_entry bytes = number_at 4 39 bytes
 
+-- how many words the block has
 abbrev pub row_count : List ℕ → ℕ
 row_count bytes = number_at 2 43 bytes
 
@@ -87,9 +95,11 @@ by_opcode opcode d s tail =
     (if nat_eq opcode 57 && (nat_eq d 0 && nat_eq tail 0) then Some (Outb s) else
     (if nat_eq opcode 84 && (nat_eq d 0 && nat_eq tail 0) then Some (Halt s) else None))
 
+-- the operation of a word
 abbrev pub op_of : ℕ → Option Op
 op_of word = by_opcode (bits 47 7 word) (bits 37 5 word) (bits 32 5 word) (bits 0 32 word)
 
+-- an operation under the guard p0, by whether its numbers are in range
 abbrev pub guarded_as : (o : Op) (b : Bool) → is_in_range 0 o ≡ b → Option Guarded
 guarded_as o true in_range = Some (record { guard = 0; op = o; in_range = in_range })
 guarded_as o false _ = None
@@ -98,6 +108,7 @@ guarded_as o false _ = None
 abbrev pub always : Op → Option Guarded
 always o = guarded_as o (is_in_range 0 o) refl
 
+-- the operation ends the program
 abbrev pub is_halt : Op → Bool
 is_halt (Halt s) = true
 is_halt _ = false
@@ -119,6 +130,7 @@ abbrev pub is_plain : List ℕ → Bool → ℕ → Op → Bool
 is_plain bytes last word o =
     nat_eq (bits 42 5 word) 0 && (fills_latency bytes word o && (has_unit bytes word o && beq (is_halt o) last))
 
+-- the operation under the guard p0, where the word is plain
 abbrev pub if_plain : List ℕ → Bool → ℕ → Option Op → Option Guarded
 if_plain bytes last word None = None
 if_plain bytes last word (Some o) = if is_plain bytes last word o then always o else None
@@ -168,6 +180,7 @@ is_laid_out bytes =
 abbrev pub body : List ℕ → Option Program
 body bytes = if is_laid_out bytes then option_map one_block (block bytes) else None
 
+-- the file begins as an image does
 abbrev pub has_magic : List ℕ → Bool
 has_magic bytes = bytes_eq (take 4 bytes) (codes "TNKI")
 
@@ -182,9 +195,11 @@ abbrev pub has_plain_header : List ℕ → Bool
 has_plain_header bytes =
     (nat_lt (length bytes) 6 || nat_eq (version bytes) 1) && (nat_lt (length bytes) 39 || has_plain_numbers bytes)
 
+-- the file has the length that its header gives
 abbrev pub has_length : List ℕ → Bool
 has_length bytes = nat_le 39 (length bytes) && nat_eq (length bytes) (given_length bytes)
 
+-- a body without a program is refused
 abbrev pub or_unbuilt : Option Program → Result Program Refusal
 or_unbuilt None = Err Unbuilt
 or_unbuilt (Some p) = Ok p

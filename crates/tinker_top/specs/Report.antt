@@ -6,7 +6,9 @@ use Rattle.operation.specs.declared.End.TheVariants as ends
 use Rattle.operation.specs.declared.TrapKind.{TrapKind}
 use Rattle.operation.specs.declared.TrapKind.TheVariants.{DivideByZero, Misaligned, OutOfRange, OutputFull, BadTarget}
 use Rattle.timed_meaning.specs.Program.{Program, Meaning, mean}
+use Rattle.timed_meaning.specs.Cycles.{cycles}
 
+-- a kind of trap by its name
 abbrev pub kind_name : TrapKind → List ℕ
 kind_name DivideByZero = codes "DivideByZero"
 kind_name Misaligned = codes "Misaligned"
@@ -14,6 +16,7 @@ kind_name OutOfRange = codes "OutOfRange"
 kind_name OutputFull = codes "OutputFull"
 kind_name BadTarget = codes "BadTarget"
 
+-- how a run ended
 abbrev pub end_text : End → List ℕ
 end_text (ends.Halted code) = codes "halted " ++ decimal code
 end_text (ends.Trapped t) = codes "trap " ++ kind_name t.kind ++ codes " block " ++ decimal t.block ++ codes " value " ++ decimal t.detail
@@ -27,10 +30,11 @@ hex_digit n = if nat_lt n 10 then 48 + n else 87 + n
 abbrev pub hex : List ℕ → List ℕ
 hex bytes = flat_map (λ b. hex_digit (b / 16) ∷ hex_digit (b % 16) ∷ []) bytes
 
--- lines of 32 bytes, the last of which may have fewer
+-- the line i of 32 bytes; the last may have fewer
 abbrev pub hex_line : List ℕ → ℕ → List ℕ
 hex_line bytes i = hex (take 32 (drop (32 * i) bytes)) ++ codes "\n"
 
+-- all of them
 abbrev pub hex_lines : List ℕ → List ℕ
 hex_lines bytes = flat_map (hex_line bytes) (range_with_len 0 ((length bytes + 31) / 32))
 
@@ -44,16 +48,13 @@ heading i m =
 abbrev pub part : ℕ → Meaning → List ℕ
 part i m = heading i m ++ hex_lines m.output
 
+-- how many cycles a context took
 unfoldable pub cycles_line : ℕ → ℕ → List ℕ
-cycles_line i cycles = codes "cycles " ++ decimal i ++ codes " " ++ decimal cycles ++ codes "\n"
-
--- the cycles of a program that ends with its first block
-abbrev pub first_end : Program → ℕ
-first_end p = elim p.blocks [ [] ↦ 0 | b ∷ _ ↦ b.end ]
+cycles_line i n = codes "cycles " ++ decimal i ++ codes " " ++ decimal n ++ codes "\n"
 
 -- the report of a run with no input
 abbrev pub report : Program → (limit bound : ℕ) → List ℕ
-report p limit bound = part 0 (mean p [] limit bound) ++ cycles_line 0 (first_end p)
+report p limit bound = part 0 (mean p [] limit bound) ++ cycles_line 0 (cycles p [] limit bound)
 
 -- the most bytes that a program may put out, and the most blocks that it may run, where no word says so
 abbrev pub usual_limit : ℕ

@@ -38,6 +38,7 @@ abbrev pub IsFetched : Files → List ℕ → ℕ → Fetched → Type 0
 IsFetched files name limit (File bytes) = (files name ≡ Some bytes.items) × (length bytes.items ≤ limit)
 IsFetched files name limit (Refused said) = (next : List ℕ → Outcome) → fetched name limit next (files name) ≡ says said.status said.text.items
 
+-- a refusal has the status 1
 abbrev pub IsRefusal : Fetched → Type 0
 IsRefusal (File bytes) = Unit {0}
 IsRefusal (Refused said) = said.status ≡ 1
@@ -46,6 +47,7 @@ IsRefusal (Refused said) = said.status ≡ 1
 abbrev pub MayNote : Asked → Option (List Asked) → Option (List Asked) → Type 0
 MayNote call old new = (new ≡ noted call old) ⊎ (new ≡ old)
 
+-- the status of a command that comes to no end
 abbrev pub stop_status : Stop → ℕ
 stop_status Fault = 3
 stop_status Memory = 4

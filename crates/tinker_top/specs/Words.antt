@@ -9,9 +9,11 @@ pub data Command : Type 0 where
   Usage : Command
   Run : (image : List ℕ) → Command
 
+-- the text begins with the prefix
 abbrev pub begins : List ℕ → List ℕ → Bool
 begins prefix text = bytes_eq (take (length prefix) text) prefix
 
+-- the settings that a command may have
 abbrev pub setting_names : List (List ℕ)
 setting_names = codes "frames=" ∷ codes "saved=" ∷ codes "bound=" ∷ codes "limit=" ∷ codes "script=" ∷ codes "dump=" ∷ []
 

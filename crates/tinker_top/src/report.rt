@@ -1,12 +1,12 @@
 // The text of a run.
 ghost use Rattle.std.specs.Prelude.{Some, ◌≡◌, ◌<◌, ◌≤◌, ◌*◌, ◌^◌, ◌++◌, ◌∷◌, [], length, OnOk, IfOk, string_bytes, encode_utf8};
 ghost use Rattle.timed_meaning.specs.Program.{IsInRange, meaning_of, program_of};
-ghost use Rattle.tinker_top.specs.Report.{kind_name as name_of, end_text, hex, hex_digit as digit_of, hex_line, hex_lines, heading, cycles_line, part as part_text, first_end as first_end_of, report as report_text, usual_report as usual_text};
+ghost use Rattle.tinker_top.specs.Report.{kind_name as name_of, end_text, hex, hex_digit as digit_of, hex_line, hex_lines, heading, cycles_line, part as part_text, report as report_text, usual_report as usual_text};
 
 use operation::{End, TrapKind};
 use std::alloc::{AllocError, Global};
 use std::fmt;
-use timed_meaning::{Meant, Program, meaning};
+use timed_meaning::{Meant, Program, meant_with_cycles};
 use tnk_base::NoMemory;
 
 /// Bytes on a line of output.
@@ -123,20 +123,10 @@ fn push_part(text: &mut String, index: u8, meant: &Meant) -> Result<(), AllocErr
 }
 
 #[tactic(auto, unfolding(crate::specs::Report::cycles_line))]
-fn push_cycles(text: &mut String, index: u8, cycles: u32) -> Result<(), AllocError>
+fn push_cycles(text: &mut String, index: u8, cycles: u64) -> Result<(), AllocError>
     ensures { OnOk result (string_bytes text.new ≡ string_bytes text.old ++ cycles_line index cycles) }
 {
     writeln!(text, "cycles {index} {cycles}")
-}
-
-/// The cycles of a program that ends with its first block.
-fn first_end(program: &Program) -> u32
-    ensures { result ≡ first_end_of (program_of program.now) }
-{
-    match program.blocks.first() {
-        None => 0,
-        Some(block) => block.end,
-    }
 }
 
 /// The report of a program's run with no input, under an output limit in bytes and a bound in blocks.
@@ -145,10 +135,10 @@ fn report(alloc: Global, program: &Program, limit: u32, bound: u32) -> Result<Ve
     requires bound { bound ≤ 1000000 }
     ensures { IfOk result (λ text. text.items ≡ report_text (program_of program.now) limit bound) }
 {
-    let meant = meaning(alloc, program, &[], limit, bound)?;
+    let (meant, cycles) = meant_with_cycles(alloc, program, &[], limit, bound)?;
     let mut text = String::new(alloc);
     push_part(&mut text, 0, &meant)?;
-    push_cycles(&mut text, 0, first_end(program))?;
+    push_cycles(&mut text, 0, cycles)?;
     Ok(text.into_bytes())
 }
 
