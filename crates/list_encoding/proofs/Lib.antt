@@ -1,0 +1,8 @@
+-- lemmas
+pub mod Choices
+pub mod Tails
+pub mod Table
+pub mod Mnemonics
+pub mod Readings
+pub mod Packing
+pub mod Issues

@@ -1,0 +1,7 @@
+pub mod Bits
+pub mod Opcodes
+pub mod Fields
+pub mod Operands
+pub mod Word
+pub mod Times
+pub mod Laws

@@ -1,0 +1,689 @@
+// Worked words and times. The expected numbers were worked out from the tables of the format, apart from this code.
+ghost use Rattle.std.specs.Prelude.{◌≡◌, All, IsTrue, true, false};
+ghost use Rattle.list_encoding.specs.Word.{IsReadable, is_head as is_head_of, pause_in};
+ghost use Rattle.list_encoding.specs.Times.{IsTimed};
+
+use super::laws::{
+    decoded_again, encoded_again, one_reading, one_word, place_decides_nothing, same_paces,
+};
+use super::*;
+use operation::{Action, AluKind, Dest, Op, Size, Test};
+use std::test::Fail;
+
+/// A word of each opcode, with its head mark, unit, pause, guard and operation.
+const WORDS: [(u64, bool, u8, u8, u8, Op); 53] = [
+    (
+        0x0000_843F_0000_0002,
+        false,
+        0,
+        0,
+        1,
+        Op::Alu(AluKind::Add, 1, 31, 2),
+    ),
+    (
+        0xBAC1_189E_0000_0009,
+        true,
+        7,
+        11,
+        6,
+        Op::Alu(AluKind::Sub, 4, 30, 9),
+    ),
+    (
+        0x7581_ACFD_0000_0010,
+        false,
+        14,
+        22,
+        11,
+        Op::Alu(AluKind::And, 7, 29, 16),
+    ),
+    (
+        0xA842_415C_0000_0017,
+        true,
+        5,
+        1,
+        16,
+        Op::Alu(AluKind::Or, 10, 28, 23),
+    ),
+    (
+        0x6302_D5BB_0000_001E,
+        false,
+        12,
+        12,
+        21,
+        Op::Alu(AluKind::Xor, 13, 27, 30),
+    ),
+    (
+        0x9DC3_6A1A_0000_0005,
+        true,
+        3,
+        23,
+        26,
+        Op::Alu(AluKind::Shl, 16, 26, 5),
+    ),
+    (
+        0x5083_FE79_0000_000C,
+        false,
+        10,
+        2,
+        31,
+        Op::Alu(AluKind::Shr, 19, 25, 12),
+    ),
+    (
+        0x8B44_12D8_0000_0013,
+        true,
+        1,
+        13,
+        4,
+        Op::Alu(AluKind::Sar, 22, 24, 19),
+    ),
+    (
+        0x4604_A737_0000_001A,
+        false,
+        8,
+        24,
+        9,
+        Op::Alu(AluKind::Min, 25, 23, 26),
+    ),
+    (
+        0xF8C5_3B96_0000_0001,
+        true,
+        15,
+        3,
+        14,
+        Op::Alu(AluKind::Max, 28, 22, 1),
+    ),
+    (
+        0x3388_CC5E_0000_0000,
+        false,
+        6,
+        14,
+        19,
+        Op::AluImm(AluKind::Add, 2, 30, 0x0),
+    ),
+    (
+        0xEE49_60FD_0000_0001,
+        true,
+        13,
+        25,
+        24,
+        Op::AluImm(AluKind::Sub, 7, 29, 0x1),
+    ),
+    (
+        0x2109_F59C_FFFF_FFFF,
+        false,
+        4,
+        4,
+        29,
+        Op::AluImm(AluKind::And, 12, 28, 0xFFFFFFFF),
+    ),
+    (
+        0xDBCA_0A3B_8000_0000,
+        true,
+        11,
+        15,
+        2,
+        Op::AluImm(AluKind::Or, 17, 27, 0x80000000),
+    ),
+    (
+        0x168A_9EDA_7FFF_FFFF,
+        false,
+        2,
+        26,
+        7,
+        Op::AluImm(AluKind::Xor, 22, 26, 0x7FFFFFFF),
+    ),
+    (
+        0xC94B_3379_0000_0020,
+        true,
+        9,
+        5,
+        12,
+        Op::AluImm(AluKind::Shl, 27, 25, 0x20),
+    ),
+    (
+        0x040B_C418_1234_5678,
+        false,
+        0,
+        16,
+        17,
+        Op::AluImm(AluKind::Shr, 0, 24, 0x12345678),
+    ),
+    (
+        0xBECC_58B7_0000_0005,
+        true,
+        7,
+        27,
+        22,
+        Op::AluImm(AluKind::Sar, 5, 23, 0x5),
+    ),
+    (
+        0x718C_ED56_FFFF_0000,
+        false,
+        14,
+        6,
+        27,
+        Op::AluImm(AluKind::Min, 10, 22, 0xFFFF0000),
+    ),
+    (
+        0xAC4D_01F5_0000_0041,
+        true,
+        5,
+        17,
+        0,
+        Op::AluImm(AluKind::Max, 15, 21, 0x41),
+    ),
+    (0x6710_94E0_0001_FFFF, false, 12, 28, 5, Op::Pbr(7, 0x1FFFF)),
+    (0x99D1_287F_0000_0000, true, 3, 7, 10, Op::Mvb(3, 31)),
+    (0x5491_BFC5_0000_0000, false, 10, 18, 15, Op::Mvr(30, 5)),
+    (0x8F54_5022_0000_0003, true, 1, 29, 20, Op::Mul(1, 2, 3)),
+    (0x4214_E7FE_0000_001D, false, 8, 8, 25, Op::Div(31, 30, 29)),
+    (0xFCD5_7885_0000_0006, true, 15, 19, 30, Op::Rem(4, 5, 6)),
+    (
+        0x3798_0C34_0000_1000,
+        false,
+        6,
+        30,
+        3,
+        Op::Load(Size::Word, 1, 20, 0x1000),
+    ),
+    (
+        0xEA58_A055_FFFF_FFFE,
+        true,
+        13,
+        9,
+        8,
+        Op::Load(Size::Half, 2, 21, 0xFFFFFFFE),
+    ),
+    (
+        0x2519_3476_0000_0002,
+        false,
+        4,
+        20,
+        13,
+        Op::Load(Size::HalfU, 3, 22, 0x2),
+    ),
+    (
+        0xDFD9_C897_0000_0001,
+        true,
+        11,
+        31,
+        18,
+        Op::Load(Size::Byte, 4, 23, 0x1),
+    ),
+    (
+        0x129A_5CB8_0000_0000,
+        false,
+        2,
+        10,
+        23,
+        Op::Load(Size::ByteU, 5, 24, 0x0),
+    ),
+    (
+        0xCD5A_F12B_0000_0000,
+        true,
+        9,
+        21,
+        28,
+        Op::Store(Size::Word, 9, 11, 0x0),
+    ),
+    (
+        0x001B_054C_FFFF_FFFC,
+        false,
+        0,
+        0,
+        1,
+        Op::Store(Size::Half, 10, 12, 0xFFFFFFFC),
+    ),
+    (
+        0xBADB_996D_8000_0001,
+        true,
+        7,
+        11,
+        6,
+        Op::Store(Size::Byte, 11, 13, 0x80000001),
+    ),
+    (0x759C_2E20_0000_0000, false, 14, 22, 11, Op::Inb(17)),
+    (0xA85C_C012_0000_0000, true, 5, 1, 16, Op::Outb(18)),
+    (
+        0x6320_5402_0001_F820,
+        false,
+        12,
+        12,
+        21,
+        Op::Cmp(
+            Test::Ceq,
+            Dest {
+                p: 0,
+                action: Action::Un,
+            },
+            Dest {
+                p: 31,
+                action: Action::Uc,
+            },
+            2,
+            1,
+        ),
+    ),
+    (
+        0x9DE0_E8A3_0007_E160,
+        true,
+        3,
+        23,
+        26,
+        Op::Cmp(
+            Test::Cne,
+            Dest {
+                p: 5,
+                action: Action::Uc,
+            },
+            Dest {
+                p: 28,
+                action: Action::Oc,
+            },
+            3,
+            7,
+        ),
+    ),
+    (
+        0x50A1_7D44_000D_CAA0,
+        false,
+        10,
+        2,
+        31,
+        Op::Cmp(
+            Test::Clt,
+            Dest {
+                p: 10,
+                action: Action::On,
+            },
+            Dest {
+                p: 25,
+                action: Action::Ac,
+            },
+            4,
+            13,
+        ),
+    ),
+    (
+        0x8B61_91E5_0013_B320,
+        true,
+        1,
+        13,
+        4,
+        Op::Cmp(
+            Test::Cle,
+            Dest {
+                p: 15,
+                action: Action::Oc,
+            },
+            Dest {
+                p: 22,
+                action: Action::Uc,
+            },
+            5,
+            19,
+        ),
+    ),
+    (
+        0x4622_2686_0019_9C60,
+        false,
+        8,
+        24,
+        9,
+        Op::Cmp(
+            Test::Cltu,
+            Dest {
+                p: 20,
+                action: Action::An,
+            },
+            Dest {
+                p: 19,
+                action: Action::Oc,
+            },
+            6,
+            25,
+        ),
+    ),
+    (
+        0xF8E2_BB27_001F_85A0,
+        true,
+        15,
+        3,
+        14,
+        Op::Cmp(
+            Test::Cleu,
+            Dest {
+                p: 25,
+                action: Action::Ac,
+            },
+            Dest {
+                p: 16,
+                action: Action::Ac,
+            },
+            7,
+            31,
+        ),
+    ),
+    (
+        0x33A4_4FE3_0000_0540,
+        false,
+        6,
+        14,
+        19,
+        Op::CmpImm(
+            Test::Ceq,
+            Dest {
+                p: 31,
+                action: Action::Ac,
+            },
+            Dest {
+                p: 0,
+                action: Action::On,
+            },
+            3,
+            0,
+        ),
+    ),
+    (
+        0xEE64_E3C4_FFFF_3400,
+        true,
+        13,
+        25,
+        24,
+        Op::CmpImm(
+            Test::Cne,
+            Dest {
+                p: 30,
+                action: Action::An,
+            },
+            Dest {
+                p: 6,
+                action: Action::Un,
+            },
+            4,
+            -1,
+        ),
+    ),
+    (
+        0x2125_77A5_8000_6380,
+        false,
+        4,
+        4,
+        29,
+        Op::CmpImm(
+            Test::Clt,
+            Dest {
+                p: 29,
+                action: Action::Oc,
+            },
+            Dest {
+                p: 12,
+                action: Action::An,
+            },
+            5,
+            -32768,
+        ),
+    ),
+    (
+        0xDBE5_8B86_7FFF_9240,
+        true,
+        11,
+        15,
+        2,
+        Op::CmpImm(
+            Test::Cle,
+            Dest {
+                p: 28,
+                action: Action::On,
+            },
+            Dest {
+                p: 18,
+                action: Action::On,
+            },
+            6,
+            32767,
+        ),
+    ),
+    (
+        0x16A6_1F67_000A_C100,
+        false,
+        2,
+        26,
+        7,
+        Op::CmpImm(
+            Test::Cltu,
+            Dest {
+                p: 27,
+                action: Action::Uc,
+            },
+            Dest {
+                p: 24,
+                action: Action::Un,
+            },
+            7,
+            10,
+        ),
+    ),
+    (
+        0xC966_B348_FFFE_F080,
+        true,
+        9,
+        5,
+        12,
+        Op::CmpImm(
+            Test::Cleu,
+            Dest {
+                p: 26,
+                action: Action::Un,
+            },
+            Dest {
+                p: 30,
+                action: Action::An,
+            },
+            8,
+            -2,
+        ),
+    ),
+    (0x0428_4407_0000_0000, false, 0, 16, 17, Op::Bru(7)),
+    (0xBEE8_D922_0000_0000, true, 7, 27, 22, Op::Brct(2, 9)),
+    (0x71A9_6FE5_0000_0000, false, 14, 6, 27, Op::Brcf(5, 31)),
+    (0xAC69_80C1_0000_0000, true, 5, 17, 0, Op::Brl(6, 1)),
+    (0x672A_140D_0000_0000, false, 12, 28, 5, Op::Halt(13)),
+];
+
+/// Words without a reading, and why.
+const UNREADABLE: [(u64, &str); 52] = [
+    (0x0000_0000_0000_0000, "the word 0"),
+    (0x0000_0000_0000_0000, "opcode 0"),
+    (0x0005_8000_0000_0000, "opcode 11"),
+    (0x0008_0000_0000_0000, "opcode 16"),
+    (0x000D_8000_0000_0000, "opcode 27"),
+    (0x0010_0000_0000_0000, "opcode 32"),
+    (0x0012_0000_0000_0000, "opcode 36"),
+    (0x0013_8000_0000_0000, "opcode 39"),
+    (0x0015_8000_0000_0000, "opcode 43"),
+    (0x0017_8000_0000_0000, "opcode 47"),
+    (0x001D_0000_0000_0000, "opcode 58"),
+    (0x001F_8000_0000_0000, "opcode 63"),
+    (0x0023_0000_0000_0000, "opcode 70"),
+    (0x0023_8000_0000_0000, "opcode 71"),
+    (0x0027_0000_0000_0000, "opcode 78"),
+    (0x0027_8000_0000_0000, "opcode 79"),
+    (0x002A_8000_0000_0000, "opcode 85"),
+    (0x003F_8000_0000_0000, "opcode 127"),
+    (0x0000_8021_0000_0020, "tail register 32"),
+    (0x0014_0021_8000_0000, "a bit above a register"),
+    (0x0015_0021_0000_0020, "tail register 32 of rem"),
+    (0x0010_8100_0000_0000, "pbr target 8"),
+    (0x0010_8021_0000_0000, "pbr with s"),
+    (0x0011_0101_0000_0000, "mvb target 8"),
+    (0x0011_0021_0000_0001, "mvb with a tail"),
+    (0x0011_8028_0000_0000, "mvr target 8"),
+    (0x0011_8021_8000_0000, "mvr with a tail"),
+    (0x001C_0021_0000_0000, "inb with s"),
+    (0x001C_0020_0000_0001, "inb with a tail"),
+    (0x001C_8021_0000_0000, "outb with d"),
+    (0x001C_8001_0000_0001, "outb with a tail"),
+    (0x0020_0021_0020_0800, "ceq with register 32"),
+    (0x0020_0021_0001_0E00, "first action 6"),
+    (0x0024_0021_0001_08C0, "second action 6"),
+    (0x0020_0021_0001_0F00, "first action 7"),
+    (0x0024_0021_0001_08E0, "second action 7"),
+    (0x0022_8021_0001_0801, "cleu with a low bit"),
+    (0x0026_8021_0001_0810, "cleui with bit 4"),
+    (0x0028_0021_0000_0000, "bru with d"),
+    (0x0028_0008_0000_0000, "bru target 8"),
+    (0x0028_0001_0000_0001, "bru with a tail"),
+    (0x0028_8028_0000_0000, "brct target 8"),
+    (0x0028_8021_0000_0001, "brct with a tail"),
+    (0x0029_03E8_0000_0000, "brcf target 8"),
+    (0x0029_03E7_0001_0000, "brcf with a tail"),
+    (0x0029_8101_0000_0000, "brl d 8"),
+    (0x0029_8028_0000_0000, "brl s 8"),
+    (0x0029_8021_0000_0001, "brl with a tail"),
+    (0x002A_0021_0000_0000, "halt with d"),
+    (0x002A_0001_0000_0001, "halt with a tail"),
+    (0xFFC0_7FFF_FFFF_FFFF, "opcode 0 with every other bit"),
+    (
+        0x97DC_8C21_0000_0000,
+        "outb with d, with mark, unit and pause",
+    ),
+];
+
+#[test]
+fn words(rt: HostRuntime) {
+    for (word, head, unit, pause, guard, op) in WORDS {
+        let found = decode(word);
+        assert!(rt; found.is_some(), "{op:?}");
+        if let Some(c) = found {
+            assert_eq!(rt; (c.head, c.unit, c.pause), (head, unit, pause), "{op:?}");
+            assert_eq!(rt; (c.guarded.guard, c.guarded.op), (guard, op));
+            assert_eq!(rt; encode(&c), word, "{op:?}");
+        }
+    }
+    one_reading();
+    one_word();
+    decoded_again();
+    encoded_again();
+    place_decides_nothing();
+}
+
+#[test]
+fn unreadable_words(rt: HostRuntime) {
+    for (word, why) in UNREADABLE {
+        assert_eq!(rt; decode(word), None, "{why}");
+    }
+}
+
+/// The words of a block of `addi`, `outb` and `halt`.
+#[test]
+fn words_of_a_block(rt: HostRuntime) {
+    let block = [
+        (0x8008_8020_0000_0041, 0, Op::AluImm(AluKind::Add, 1, 0, 65)),
+        (0x901C_8001_0000_0000, 2, Op::Outb(1)),
+        (0xA02A_0000_0000_0000, 4, Op::Halt(0)),
+    ];
+    for (word, unit, op) in block {
+        assert_eq!(rt;
+            decode(word).map(|c| (c.head, c.unit, c.pause, c.guarded.guard, c.guarded.op)),
+            Some((true, unit, 0, 0, op))
+        );
+    }
+}
+
+/// Whether each word has a reading.
+fn are_readable(words: &[u64]) -> bool
+    ensures { IsTrue result → All IsReadable words.now }
+{
+    for word in words {
+        if decode(*word).is_none() {
+            return false;
+        }
+    }
+    true
+}
+
+fn may_pause(word: u64) -> bool
+    ensures { IsTrue result → is_head_of word ≡ false → pause_in word ≡ 0 }
+{
+    is_head(word) || pause(word) == 0
+}
+
+/// Whether no word without the head mark has a pause.
+fn only_heads_pause(words: &[u64]) -> bool
+    ensures { IsTrue result → All (λ w. is_head_of w ≡ false → pause_in w ≡ 0) words.now }
+{
+    for word in words {
+        if !may_pause(*word) {
+            return false;
+        }
+    }
+    true
+}
+
+/// Whether the words are a block that has times.
+fn is_timed(words: &[u64]) -> bool
+    ensures { IsTrue result → IsTimed words.now }
+{
+    if words.is_empty() || words.len() > 512 {
+        return false;
+    }
+    if !is_head(words[0]) || !are_readable(words) {
+        return false;
+    }
+    only_heads_pause(words)
+}
+
+#[test]
+fn block_times(rt: HostRuntime) -> Result<(), Fail> {
+    let cases: [(&[u64], &[u32], u32); 4] = [
+        // Six MultiOps of one operation each.
+        (
+            &[
+                0x8008_8020_0000_0041,
+                0x9018_0020_0000_0000,
+                0x8008_8041_0000_0000,
+                0x901C_8002_0000_0000,
+                0x901C_8001_0000_0000,
+                0xA02A_0000_0000_0000,
+            ],
+            &[0, 1, 2, 3, 4, 5],
+            6,
+        ),
+        // The same operations in four MultiOps.
+        (
+            &[
+                0x8048_8020_0000_0041,
+                0x1018_0020_0000_0000,
+                0x8048_8041_0000_0000,
+                0x901C_8002_0000_0000,
+                0x202A_0000_0000_0000,
+                0x905C_8001_0000_0000,
+            ],
+            &[0, 0, 2, 4, 4, 5],
+            7,
+        ),
+        // A pause of 12 behind three operations.
+        (
+            &[
+                0x8048_8020_0000_0007,
+                0x931A_8020_0000_0000,
+                0x0814_8041_0000_0000,
+                0x101A_8020_0000_0004,
+                0xA0AA_0000_0000_0000,
+            ],
+            &[0, 2, 2, 2, 15],
+            18,
+        ),
+        // One operation with the longest pause.
+        (&[0xA7EA_0000_0000_0000], &[0], 32),
+    ];
+    for (words, at, end) in cases {
+        assert!(rt; is_timed(words));
+        let found = times(rt.alloc(), words).map_err(|_| "no memory")?;
+        assert_eq!(rt; found.at.as_slice(), at);
+        assert_eq!(rt; found.end, end);
+    }
+    same_paces();
+    Ok(())
+}
