@@ -1,0 +1,10 @@
+// The parts of texts. It stands on tnk_base.
+// Its contract promises that `decimal` gives the value of a field of decimal digits, and none for any other field
+// (specs/Digits.antt).
+#![tactic(auto)]
+
+mod digits;
+#[cfg(test)]
+mod tests;
+
+pub use digits::decimal;
