@@ -1,5 +1,7 @@
-// What the crates above share: files' names, pages' keys, and the host on which a command runs. It stands on std alone.
-// Its contract is the meaning of a host, and of one in memory whose calls can be made to fail: the tests' host.
+// What the crates above share: files' names, pages' keys, and the host on which a command runs. It stands on std, and on
+// `byteorder` for what the bytes of a number are.
+// Its contract is the meaning of a host, and of one in memory whose calls can be made to fail: the tests' host. A law says
+// that bytes which were read as a number are written again.
 #![tactic(auto)]
 
 ghost use Rattle.std.specs.Prelude.{◌≡◌, ℕ, List, IfOk, bytes_eq};
@@ -7,6 +9,7 @@ ghost use Rattle.std.specs.Cmp.{partial_equiv_from_equiv};
 ghost use Rattle.std.specs.Cmp.Lexicographic.{nat_list_eq_equiv};
 
 mod host;
+pub mod laws;
 mod memory;
 #[cfg(test)]
 mod tests;
