@@ -1,11 +1,13 @@
 -- What each operation reads and writes, and what it is: its unit kind, its latency kind, whether it can trap.
-use Rattle.std.specs.Prelude.{ℕ, zero, suc, Bool, true, false, cond, ◌||◌, nat_eq, List, [], ◌∷◌, Option, Some, None}
+use Rattle.std.specs.Prelude.{ℕ, zero, suc, Bool, true, false, cond, ◌||◌, nat_eq, List, [], ◌∷◌, ◌++◌, Option, Some, None}
 use Rattle.operation.specs.declared.Op.{Op}
 use Rattle.operation.specs.declared.Op.TheVariants as op
 use Rattle.operation.specs.declared.Guarded.{Guarded}
 use Rattle.operation.specs.declared.Dest.{Dest}
 use Rattle.operation.specs.declared.Action.{Action}
 use Rattle.operation.specs.declared.Action.TheVariants.{Un, Uc, On, Oc, An, Ac}
+use Rattle.operation.specs.declared.Sources.{Sources}
+use Rattle.operation.specs.declared.Destinations.{Destinations}
 use Rattle.operation.specs.declared.Place.{Place}
 use Rattle.operation.specs.declared.Place.TheVariants.{General, Predicate, Target, Memory}
 use Rattle.operation.specs.declared.Family.{Family}
@@ -15,16 +17,7 @@ use Rattle.operation.specs.declared.UnitKind.TheVariants as unit
 use Rattle.operation.specs.declared.LatKind.{LatKind}
 use Rattle.operation.specs.declared.LatKind.TheVariants as lat
 
--- the numbers of the places whose values are an operation's operands, and whether it reads memory: the general
--- registers r[s] and r[t] (or r[d] of a store), the branch target b[s], and the predicate p[d] of a conditional branch
-pub record Sources : Type 0 where
-  pub first : Option ℕ
-  pub second : Option ℕ
-  pub target : Option ℕ
-  pub test : Option ℕ
-  pub memory : Bool
-
--- no place
+-- no operand
 abbrev pub none_read : Sources
 none_read = record { first = None; second = None; target = None; test = None; memory = false }
 
@@ -40,7 +33,8 @@ two_read s t = record none_read { first = Some s; second = Some t }
 abbrev pub target_read : ℕ → Sources
 target_read s = record none_read { target = Some s }
 
--- the operands of each operation
+-- the operands of each operation: the numbers of r[s], of r[t] or a store's r[d], of b[s], and of a conditional branch's
+-- p[d]; and whether it reads memory
 abbrev pub sources : Op → Sources
 sources (op.Alu k d s t) = two_read s t
 sources (op.AluImm k d s imm) = one_read s
@@ -83,6 +77,15 @@ destinations (op.Brct s d) = []
 destinations (op.Brcf s d) = []
 destinations (op.Brl d s) = Target d ∷ []
 destinations (op.Halt s) = []
+
+-- the place, where there is one
+abbrev pub if_any : Option Place → List Place
+if_any None = []
+if_any (Some x) = x ∷ []
+
+-- the places that are named, the first one first
+abbrev pub listed : Destinations → List Place
+listed d = if_any d.first ++ if_any d.second
 
 -- whether two places are one
 abbrev pub same_place : Place → Place → Bool

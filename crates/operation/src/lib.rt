@@ -2,7 +2,7 @@
 // that it takes, what it reads and writes, and what it does with the values of its operands.
 // The layer stands on std alone, takes no memory and never fails.
 // Its contract promises that `evaluate` is the table of effects (specs/Effects.antt, with the
-// arithmetic of specs/Arithmetic.antt), and that `reads`, `writes`, `wired`, `unit` and `lat_kind`
+// arithmetic of specs/Arithmetic.antt), and that `places`, `unit`, `lat_kind` and the tests of kinds
 // are the tables of places and kinds (specs/Places.antt). `laws` says what holds of these tables.
 #![tactic(auto)]
 
@@ -14,13 +14,13 @@ mod effects;
 mod kinds;
 pub mod laws;
 pub mod numbers;
-mod places;
+pub mod places;
 #[cfg(test)]
 mod tests;
 
 pub use effects::evaluate;
-pub use kinds::{lat_kind, unit};
-pub use places::{reads, wired, writes};
+pub use kinds::{can_trap, is_branch, is_inb, is_load, is_store, lat_kind, unit};
+pub use places::{is_constant, reads, wired, writes};
 
 /// The arithmetic of a register operation. All results are taken modulo 2^32.
 #[derive(Clone, Copy, Debug, PartialEq, Eq)]
@@ -219,6 +219,31 @@ pub enum Place {
     Target(u8),
     /// The whole data memory.
     Memory,
+}
+
+/// The operands of an operation, by the numbers of their places. The guard is none of them; r0 and
+/// p0 are named like any other.
+#[derive(Clone, Copy, Debug, PartialEq, Eq)]
+pub struct Sources {
+    /// `r[s]`.
+    pub first: Option<u8>,
+    /// `r[t]`, or `r[d]` of a store.
+    pub second: Option<u8>,
+    /// `b[s]`.
+    pub target: Option<u8>,
+    /// `p[d]` of a conditional branch.
+    pub test: Option<u8>,
+    /// Whether it reads the memory.
+    pub memory: bool,
+}
+
+/// The places where an operation leaves a value. r0 and p0 are named like any other.
+#[derive(Clone, Copy, Debug, PartialEq, Eq)]
+pub struct Destinations {
+    /// The only one, or a compare's first one.
+    pub first: Option<Place>,
+    /// A compare's second one.
+    pub second: Option<Place>,
 }
 
 /// The one value that compares wired together on a predicate can write.

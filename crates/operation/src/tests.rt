@@ -1,6 +1,7 @@
 // Worked cases of each table. The expected numbers were worked out apart from this code.
 use super::laws::{effects_in_range, equal_by_parts, wired_by_all_destinations};
 use super::numbers::{bytes, extend};
+use super::places::{destinations, sources};
 use super::*;
 
 const NONE: Operands = Operands {
@@ -416,6 +417,161 @@ fn reads_and_writes(rt: HostRuntime) {
         assert_eq!(rt; writes(&op, place), written, "{op:?} {place:?}");
     }
     assert!(rt; !reads(&Guarded { guard: 0, op: add }, Place::Predicate(0)));
+}
+
+#[test]
+fn operands_and_destinations(rt: HostRuntime) {
+    let on = Dest {
+        p: 0,
+        action: Action::On,
+    };
+    let un = Dest {
+        p: 9,
+        action: Action::Un,
+    };
+    let r3 = Some(Place::General(3));
+    let b3 = Some(Place::Target(3));
+    let p0 = Some(Place::Predicate(0));
+    let p9 = Some(Place::Predicate(9));
+    let memory = Some(Place::Memory);
+    // The numbers of the operands, whether it reads memory, and the destinations.
+    let cases = [
+        (
+            Op::Alu(AluKind::Add, 3, 1, 2),
+            (Some(1), Some(2), None, None, false),
+            (r3, None),
+        ),
+        (
+            Op::AluImm(AluKind::Add, 3, 0, 2),
+            (Some(0), None, None, None, false),
+            (r3, None),
+        ),
+        (Op::Pbr(3, 1), (None, None, None, None, false), (b3, None)),
+        (
+            Op::Mvb(3, 1),
+            (Some(1), None, None, None, false),
+            (b3, None),
+        ),
+        (
+            Op::Mvr(3, 1),
+            (None, None, Some(1), None, false),
+            (r3, None),
+        ),
+        (
+            Op::Mul(3, 1, 2),
+            (Some(1), Some(2), None, None, false),
+            (r3, None),
+        ),
+        (
+            Op::Div(3, 1, 2),
+            (Some(1), Some(2), None, None, false),
+            (r3, None),
+        ),
+        (
+            Op::Rem(3, 1, 2),
+            (Some(1), Some(2), None, None, false),
+            (r3, None),
+        ),
+        (
+            Op::Load(Size::Half, 3, 1, 2),
+            (Some(1), None, None, None, true),
+            (r3, None),
+        ),
+        (
+            Op::Store(Size::Half, 3, 1, 2),
+            (Some(1), Some(3), None, None, false),
+            (memory, None),
+        ),
+        (Op::Inb(3), (None, None, None, None, false), (r3, None)),
+        (
+            Op::Outb(1),
+            (Some(1), None, None, None, false),
+            (None, None),
+        ),
+        (
+            Op::Cmp(Test::Ceq, on, un, 1, 2),
+            (Some(1), Some(2), None, None, false),
+            (p0, p9),
+        ),
+        (
+            Op::CmpImm(Test::Ceq, un, on, 1, 2),
+            (Some(1), None, None, None, false),
+            (p9, p0),
+        ),
+        (Op::Bru(1), (None, None, Some(1), None, false), (None, None)),
+        (
+            Op::Brct(1, 2),
+            (None, None, Some(1), Some(2), false),
+            (None, None),
+        ),
+        (
+            Op::Brcf(1, 2),
+            (None, None, Some(1), Some(2), false),
+            (None, None),
+        ),
+        (
+            Op::Brl(3, 1),
+            (None, None, Some(1), None, false),
+            (b3, None),
+        ),
+        (
+            Op::Halt(1),
+            (Some(1), None, None, None, false),
+            (None, None),
+        ),
+    ];
+    for (op, want, left) in cases {
+        let from = sources(&op);
+        assert_eq!(rt;
+            (from.first, from.second, from.target, from.test, from.memory),
+            want,
+            "{op:?}"
+        );
+        let to = destinations(&op);
+        assert_eq!(rt; (to.first, to.second), left, "{op:?}");
+    }
+}
+
+#[test]
+fn tests_of_kinds(rt: HostRuntime) {
+    // Whether it is a branch, a store, a load and an `inb`, and whether it can trap.
+    let cases = [
+        (
+            Op::Alu(AluKind::Add, 3, 1, 2),
+            (false, false, false, false, false),
+        ),
+        (Op::Mul(3, 1, 2), (false, false, false, false, false)),
+        (Op::Div(3, 1, 2), (false, false, false, false, true)),
+        (Op::Rem(3, 1, 2), (false, false, false, false, true)),
+        (
+            Op::Load(Size::Byte, 3, 1, 2),
+            (false, false, true, false, true),
+        ),
+        (
+            Op::Store(Size::Byte, 3, 1, 2),
+            (false, true, false, false, true),
+        ),
+        (Op::Inb(1), (false, false, false, true, false)),
+        (Op::Outb(1), (false, false, false, false, true)),
+        (Op::Pbr(1, 2), (false, false, false, false, false)),
+        (Op::Bru(1), (true, false, false, false, false)),
+        (Op::Brct(1, 2), (true, false, false, false, false)),
+        (Op::Brcf(1, 2), (true, false, false, false, false)),
+        (Op::Brl(1, 2), (true, false, false, false, false)),
+        (Op::Halt(1), (true, false, false, false, false)),
+    ];
+    for (op, want) in cases {
+        let found = (
+            is_branch(&op),
+            is_store(&op),
+            is_load(&op),
+            is_inb(&op),
+            can_trap(&op),
+        );
+        assert_eq!(rt; found, want, "{op:?}");
+    }
+    assert!(rt; is_constant(Place::General(0)) && is_constant(Place::Predicate(0)));
+    assert!(rt; !is_constant(Place::Target(0)) && !is_constant(Place::Memory));
 }
 
 #[test]
