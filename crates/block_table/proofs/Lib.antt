@@ -1,3 +1,4 @@
 pub mod Search
 pub mod Finding
 pub mod Rising
+pub mod Gaps

@@ -1,6 +1,6 @@
 -- Rows that keep the rule `Table` rise.
-use Rattle.std.proofs.Common.{◌≡◌, ℕ, zero, suc, ◌+◌, ◌*◌, ◌<◌, ◌≤◌, ◌||◌, Bool, true, false, List, length, map, get_or, refl, sym, ap, ◌∙◌, add-one, eqb-true, eq-eqb, arith, ⊎_elim}
-use Rattle.std.specs.Prelude.{nat_eq, nat_lt, nat_le, slice_index}
+use Rattle.std.proofs.Common.{◌≡◌, ℕ, zero, suc, ◌+◌, ◌*◌, ◌<◌, ◌≤◌, ◌||◌, Bool, true, false, length, get_or, refl, add-one, arith, ⊎_elim}
+use Rattle.std.specs.Prelude.{nat_eq, nat_lt, nat_le}
 use Rattle.std.specs.List.Sorted.{IsStrictlyIncreasing}
 use Rattle.std.proofs.lemmas.Bool.{cases_lt, lt-ltb, le-leb}
 use Rattle.std.proofs.lemmas.List.{length-map, get_or-map}

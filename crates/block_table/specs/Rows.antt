@@ -1,5 +1,5 @@
 -- The rows of a block table: a block's entry and how many operations it has.
-use Rattle.std.specs.Prelude.{ℕ, ◌+◌, ◌%◌, ◌^◌, ◌<◌, ◌≤◌, zero, suc, List, length, slice_index_or, map}
+use Rattle.std.specs.Prelude.{ℕ, ◌+◌, ◌*◌, ◌%◌, ◌^◌, ◌<◌, ◌≤◌, zero, suc, List, length, slice_index_or, map}
 use Rattle.std.specs.List.Sorted.{IsStrictlyIncreasing}
 
 abbrev pub Rows : Type 0
@@ -25,9 +25,10 @@ end_before rows (suc k) = end_of rows k
 abbrev pub entries : Rows → List ℕ
 entries rows = map (λ row. row.0) rows
 
--- the entries rise and stand on pages below 65,536, and no block is empty
+-- the entries rise and stand on pages below 65,536, no block is empty, and none begins before the end of the one before
 pub record IsRising (rows : Rows) : Type 0 where
   pub entries : IsStrictlyIncreasing (entries rows)
+  pub apart : (k : ℕ) → k < length rows → end_before rows k ≤ entry_of rows k
   pub inside : (k : ℕ) → k < length rows → entry_of rows k < 2 ^ 25
   pub counted : (k : ℕ) → k < length rows → 0 < count_of rows k
   pub few : length rows ≤ 2 ^ 26
@@ -40,3 +41,7 @@ IsOnPage rows k = entry_of rows k % 512 + count_of rows k ≤ 512
 pub record IsTable (rows : Rows) : Type 0 where
   pub rising : IsRising rows
   pub on_page : (k : ℕ) → k < length rows → IsOnPage rows k
+
+-- each block stands on the first so many pages
+abbrev pub AreInside : Rows → ℕ → Type 0
+AreInside rows pages = (k : ℕ) → k < length rows → end_of rows k ≤ 512 * pages

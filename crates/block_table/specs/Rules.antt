@@ -1,5 +1,5 @@
 -- The rules of a block table, and the first that is broken.
-use Rattle.std.specs.Prelude.{ℕ, ◌≡◌, ◌+◌, ◌*◌, ◌%◌, ◌||◌, Bool, nat_eq, nat_lt, nat_le, List, length, find, Option, Some, None, if◌then◌else◌}
+use Rattle.std.specs.Prelude.{ℕ, ◌≡◌, ◌+◌, ◌*◌, ◌%◌, ◌||◌, Bool, nat_eq, nat_lt, nat_le, length, find, Option, Some, None, if◌then◌else◌}
 use Rattle.std.specs.List.{list_any, range_with_len}
 use Rattle.block_table.specs.declared.rules.TableRule.{TableRule}
 use Rattle.block_table.specs.declared.rules.TableRule.TheVariants.{Table, PageCross, Entry}

@@ -1,10 +1,12 @@
 // The table and its look-ups.
-ghost use Rattle.std.specs.Prelude.{◌≡◌, ◌<◌, ◌≤◌, ◌+◌, ◌/◌, ◌↔◌, ◌^◌, ℕ, length, Option, Some, None, IsNone, IsSome, IfOk, IfSome, IfNone, MatchResult, false, ◌%◌, ◌||◌, nat_eq, nat_le, nat_lt};
+ghost use Rattle.std.specs.Prelude.{◌≡◌, ◌<◌, ◌≤◌, ◌+◌, ◌*◌, ◌/◌, ◌↔◌, ◌^◌, ℕ, length, Option, Some, None, IsNone, IsSome, IfOk, IfSome, IfNone, MatchResult, false, true, ◌%◌, ◌||◌, nat_eq, nat_le, nat_lt};
 ghost use Rattle.std.specs.List.Sorted.{IsStrictlyIncreasing};
-ghost use Rattle.block_table.specs.Rows.{Rows, entry_of, count_of, end_of, entries, IsRising, IsOnPage, IsTable};
+ghost use Rattle.block_table.specs.Rows.{Rows, entry_of, count_of, end_of, entries, IsRising, IsOnPage, IsTable, AreInside};
+ghost use Rattle.block_table.specs.Padding.{first_unpadded as first_unpadded_of};
 ghost use Rattle.block_table.specs.Rules.{breaks_table, crosses_page, has_entry as is_entry, first_row, first_broken, IsFirstBroken};
 
 use super::PAGE;
+use super::padding::first_unpadded;
 use super::rules::{TableFault, TableRule};
 use std::alloc::Global;
 use std::marker::Model;
@@ -34,6 +36,7 @@ fn is_misplaced(entry: u32, count: u16, limit: u32, end: u32) -> bool
 fn first_misplaced(rows: &[(u32, u16)], pages: u16) -> Option<u32>
     ensures first { result ≡ first_row (breaks_table rows.now pages) rows.now }
     ensures rising { IfNone result (IsRising rows.now) }
+    ensures inside { IfNone result ((k : ℕ) → k < length rows.now → entry_of rows.now k < 512 * pages) }
 {
     let limit = pages as u32 * PAGE;
     let mut end = 0;
@@ -73,6 +76,7 @@ fn first_crossing(rows: &[(u32, u16)]) -> Option<u32>
 fn row_of(rows: &[(u32, u16)], entry: u32) -> Option<u32>
     requires { IsRising rows.now }
     ensures none { IfNone result (is_entry rows.now entry ≡ false) }
+    ensures some { IfSome result (λ _. is_entry rows.now entry ≡ true) }
     ensures row { IfSome result (λ k. (k < length rows.now) × (entry_of rows.now k ≡ entry)) }
 {
     match rows.binary_search_by_key(&entry, |row| row.0) {
@@ -82,14 +86,15 @@ fn row_of(rows: &[(u32, u16)], entry: u32) -> Option<u32>
 }
 
 impl Table {
-    /// A table of these rows, for an image of so many pages whose program begins at `entry`.
+    /// A table of these rows, for an image of so many pages whose program begins at `entry`. Each block stands on those pages.
     pub fn new(
         alloc: Global,
         rows: &[(u32, u16)],
         pages: u16,
         entry: u32,
     ) -> Result<Self, TableFault>
-        ensures { MatchResult result (λ table. (table ≡ rows.now) × (first_broken rows.now pages entry ≡ None)) (IsFirstBroken rows.now pages entry) }
+        ensures table { MatchResult result (λ table. (table ≡ rows.now) × (first_broken rows.now pages entry ≡ None)) (IsFirstBroken rows.now pages entry) }
+        ensures inside { IfOk result (λ table. AreInside table pages) }
     {
         if let Some(row) = first_misplaced(rows, pages) {
             return Err(TableFault::Broken(TableRule::Table, row));
@@ -109,6 +114,7 @@ impl Table {
     pub fn rows(&self) -> u32
         ensures count { result ≡ length self.now }
         ensures rising { IsStrictlyIncreasing (entries self.now) }
+        ensures table { IsTable self.now }
     {
         self.rows.len() as u32
     }
@@ -116,6 +122,7 @@ impl Table {
     /// The row with an entry, if there is one.
     pub fn block_of(&self, entry: u32) -> Option<u32>
         ensures none { IfNone result (is_entry self.now entry ≡ false) }
+        ensures some { IfSome result (λ _. is_entry self.now entry ≡ true) }
         ensures row { IfSome result (λ k. (k < length self.now) × (entry_of self.now k ≡ entry)) }
     {
         row_of(&self.rows, entry)
@@ -160,5 +167,13 @@ impl Table {
         ensures on_page { IsOnPage self.now block }
     {
         self.rows[block as usize].1
+    }
+
+    /// The least address whose word stands in no block and isn't 0.
+    pub fn unpadded(&self, words: &[u64]) -> Option<u32>
+        requires { length words.now ≤ 2 ^ 32 }
+        ensures { result ≡ first_unpadded_of self.now words.now }
+    {
+        first_unpadded(&self.rows, words)
     }
 }

@@ -1,4 +1,5 @@
-// Tables that are refused, each at its first broken rule and least row, and the look-ups of one that isn't.
+// Tables that are refused, each at its first broken rule and least row, the look-ups of one that isn't, and words
+// between blocks.
 use crate::{Table, TableFault, TableRule};
 use std::test::Fail;
 
@@ -44,6 +45,29 @@ fn rows_are_looked_up(rt: HostRuntime) -> Result<(), Fail> {
         assert_eq!(rt; table.page(3), 3);
         assert_eq!(rt; table.entry(2), 512);
         assert_eq!(rt; table.count(2), 512);
+    }
+    Ok(())
+}
+
+#[test]
+fn words_between_blocks(rt: HostRuntime) -> Result<(), Fail> {
+    let alloc = rt.alloc();
+    let Ok(table) = Table::new(alloc, &[(1, 2), (3, 1), (6, 2)], 1, 1) else {
+        return Err(Fail::from("refused"));
+    };
+    let cases: [(&[u64], Option<u32>); 9] = [
+        (&[0, 1, 1, 1, 0, 0, 1, 1, 0], None),
+        (&[0, 0, 0, 0, 0, 0, 0, 0, 0], None),
+        (&[2, 1, 1, 1, 0, 0, 1, 1, 3], Some(0)),
+        (&[0, 1, 1, 1, 1, 1, 1, 1, 0], Some(4)),
+        (&[0, 0, 0, 0, 0, 1, 0, 0, 0], Some(5)),
+        (&[0, 1, 1, 1, 0, 0, 1, 1, 0, 1], Some(9)),
+        (&[0, 1, 1], None),
+        (&[0, 1, 1, 1, 18_446_744_073_709_551_615], Some(4)),
+        (&[], None),
+    ];
+    for (words, first) in cases {
+        assert_eq!(rt; table.unpadded(words), first, "{words:?}");
     }
     Ok(())
 }

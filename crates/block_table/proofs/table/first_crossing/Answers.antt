@@ -1,6 +1,6 @@
-use Rattle.std.proofs.Common.{◌≡◌, ℕ, ◌+◌, ◌%◌, ◌<◌, ◌≤◌, ap, sym, ◌∙◌, below_more, arith, length, true, false}
-use Rattle.block_table.specs.Rows.{Rows, entry_of, count_of, end_before}
-use Rattle.block_table.specs.Rules.{breaks_table, crosses_page, first_row}
+use Rattle.std.proofs.Common.{◌+◌, ◌%◌, sym, below_more, arith, length}
+use Rattle.block_table.specs.Rows.{entry_of, count_of}
+use Rattle.block_table.specs.Rules.{crosses_page}
 use Rattle.block_table.proofs.Rising.{not_lt}
 use Rattle.block_table.proofs.Search.{find-none, find-some}
 use Rattle.block_table.proofs.table.first_crossing.Goals as goal

@@ -1,6 +1,6 @@
-use Rattle.std.proofs.Common.{◌≡◌, ℕ, ◌+◌, ◌*◌, ◌<◌, ◌≤◌, ◌||◌, ap, sym, ◌∙◌, below_more, arith, length, true, false, Bool}
+use Rattle.std.proofs.Common.{◌≡◌, ℕ, ◌*◌, ◌||◌, ap, sym, ◌∙◌, below_more, arith, length, false, Bool}
 use Rattle.std.specs.Prelude.{nat_eq, nat_lt, nat_le}
-use Rattle.block_table.specs.Rows.{Rows, entry_of, count_of, end_before}
+use Rattle.block_table.specs.Rows.{Rows, entry_of, count_of}
 use Rattle.block_table.specs.Rules.{breaks_table}
 use Rattle.block_table.proofs.Search.{find-none, find-some}
 use Rattle.block_table.proofs.Rising.{kept, end_before-next, rising}
@@ -36,7 +36,11 @@ pub returns-clause-rising : goal.returns-clause-rising
 returns-clause-rising c =
     record {
       entries = rising c.args.rows.now c.args.pages (λ j below. c.loop-k.invariant.kept j (omega arith));
+      apart = λ k below. (kept c.args.rows.now c.args.pages k (c.loop-k.invariant.kept k (omega arith))).behind;
       inside = λ k below. let row = kept c.args.rows.now c.args.pages k (c.loop-k.invariant.kept k (omega arith)) in omega arith;
       counted = λ k below. (kept c.args.rows.now c.args.pages k (c.loop-k.invariant.kept k (omega arith))).counted;
       few = omega arith;
     }
+
+pub returns-clause-inside : goal.returns-clause-inside
+returns-clause-inside c = λ k below. let row = kept c.args.rows.now c.args.pages k (c.loop-k.invariant.kept k (omega arith)) in omega arith
