@@ -11,16 +11,16 @@ use Rattle.std.proofs.Math.Seq.{take-append_seam, take-append-add}
 use Rattle.list_encoding.specs.Word.{is_head, pause_in}
 use Rattle.list_encoding.specs.Times.{Pace, word_pace, spans, begun_by, issue_cycle, issue_cycles, block_end}
 
-abbrev heads : List Pace → ℕ
+abbrev pub heads : List Pace → ℕ
 heads ops = count_by (λ k. k.head) ops
 
-spans-append : (xs ys : List Pace) → spans (xs ++ ys) ≡ spans xs ++ spans ys
+pub spans-append : (xs ys : List Pace) → spans (xs ++ ys) ≡ spans xs ++ spans ys
 spans-append xs ys = ap (map (λ k. 1 + k.pause)) (filter-append (λ k. k.head) xs ys) ∙ map-append (λ k. 1 + k.pause) (filter (λ k. k.head) xs) (filter (λ k. k.head) ys)
 
-length-spans : (xs : List Pace) → length (spans xs) ≡ heads xs
+pub length-spans : (xs : List Pace) → length (spans xs) ≡ heads xs
 length-spans xs = length-map (filter (λ k. k.head) xs) (λ k. 1 + k.pause) ∙ length-filter (λ k. k.head) xs
 
-sum-append : (xs ys : List ℕ) → sum (xs ++ ys) ≡ sum xs + sum ys
+pub sum-append : (xs ys : List ℕ) → sum (xs ++ ys) ≡ sum xs + sum ys
 sum-append xs ys = grind (arith, common_steps)
 
 heads-append : (xs ys : List Pace) → heads (xs ++ ys) ≡ heads xs + heads ys
@@ -29,10 +29,10 @@ heads-append xs ys =
     ∙ ap (λ n. n + length (spans ys)) (length-spans xs) ∙ ap (λ n. heads xs + n) (length-spans ys)
 
 -- a head is one span, and any other operation none
-spans-head : (y : Pace) → y.head ≡ true → spans (y ∷ []) ≡ (1 + y.pause) ∷ []
+pub spans-head : (y : Pace) → y.head ≡ true → spans (y ∷ []) ≡ (1 + y.pause) ∷ []
 spans-head y h = ap (λ b. map (λ (k : Pace). 1 + k.pause) (cond b (y ∷ []) [])) h
 
-spans-other : (y : Pace) → y.head ≡ false → spans (y ∷ []) ≡ []
+pub spans-other : (y : Pace) → y.head ≡ false → spans (y ∷ []) ≡ []
 spans-other y h = ap (λ b. map (λ (k : Pace). 1 + k.pause) (cond b (y ∷ []) [])) h
 
 -- the issue cycle of the last operation
@@ -69,7 +69,7 @@ last-other xs y h =
     let begun : heads (xs ++ y ∷ []) ≡ heads xs = sym (length-spans (xs ++ y ∷ [])) ∙ ap length same ∙ length-spans xs in
     ap (λ n. sum (take (n - 1) (spans (xs ++ y ∷ [])))) begun ∙ ap (λ s. sum (take (heads xs - 1) s)) same
 
-heads-take : (k : ℕ) (xs : List Pace) → heads (take k xs) ≤ heads xs
+pub heads-take : (k : ℕ) (xs : List Pace) → heads (take k xs) ≤ heads xs
 heads-take k xs = omega (arith, ap heads (take-append-drop k xs), heads-append (take k xs) (drop k xs))
 
 -- the operations before it keep their cycles

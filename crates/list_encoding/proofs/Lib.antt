@@ -4,5 +4,7 @@ pub mod Tails
 pub mod Table
 pub mod Mnemonics
 pub mod Readings
+pub mod GuardedIn
 pub mod Packing
 pub mod Issues
+pub mod Bounds

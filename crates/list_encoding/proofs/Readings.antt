@@ -50,7 +50,7 @@ same_guarded word a b h k =
     equal_by_parts a.guarded b.guarded (sym h.guard ∙ k.guard)
     (some_same a.guarded.op b.guarded.op (sym (operation_in_reading word f a h.fields h) ∙ operation_in_reading word f b h.fields k))
 
-abbrev coded : (head : Bool) (unit pause : ℕ) (g : Guarded) → unit < 16 → pause < 32 → Coded
+abbrev pub coded : (head : Bool) (unit pause : ℕ) (g : Guarded) → unit < 16 → pause < 32 → Coded
 coded head unit pause g p q = record { head = head; unit = unit; pause = pause; guarded = g; unit_in_range = p; pause_in_range = q }
 
 coded_facts : (head : Bool) (unit pause : ℕ) (g : Guarded) (p x : unit < 16) (q y : pause < 32) → coded head unit pause g p q ≡ coded head unit pause g x y

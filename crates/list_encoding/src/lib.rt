@@ -2,7 +2,8 @@
 // words. It stands on tnk_base and operation.
 // Its contract promises that a word has at most one reading and a reading one word (specs/Word.antt, over the table of
 // opcodes and fields in specs/Opcodes.antt and specs/Fields.antt), that `decode` and `encode` find them, and that
-// `times` sums the cycles of the MultiOps (specs/Times.antt). `laws` says what holds of these definitions.
+// `times` sums the cycles of the MultiOps (specs/Times.antt). The guarded operation of a word is a function too
+// (specs/Reading.antt). `laws` says what holds of these definitions.
 #![tactic(auto)]
 
 ghost use Rattle.std.specs.Prelude.{◌<◌};

@@ -1,10 +1,8 @@
 // Worked words and times. The expected numbers were worked out from the tables of the format, apart from this code.
-ghost use Rattle.std.specs.Prelude.{◌≡◌, All, IsTrue, true, false};
-ghost use Rattle.list_encoding.specs.Word.{IsReadable, is_head as is_head_of, pause_in};
-ghost use Rattle.list_encoding.specs.Times.{IsTimed};
-
 use super::laws::{
-    decoded_again, encoded_again, one_reading, one_word, place_decides_nothing, same_paces,
+    decoded_again, encoded_again, ends_in_time, guarded_of_reading, issues_before_end,
+    issues_by_end, issues_rise, one_reading, one_word, operation_of_reading, place_decides_nothing,
+    readable_decided, same_paces,
 };
 use super::*;
 use operation::{Action, AluKind, Dest, Op, Size, Test};
@@ -566,6 +564,9 @@ fn words(rt: HostRuntime) {
     decoded_again();
     encoded_again();
     place_decides_nothing();
+    readable_decided();
+    guarded_of_reading();
+    operation_of_reading();
 }
 
 #[test]
@@ -591,52 +592,9 @@ fn words_of_a_block(rt: HostRuntime) {
     }
 }
 
-/// Whether each word has a reading.
-fn are_readable(words: &[u64]) -> bool
-    ensures { IsTrue result → All IsReadable words.now }
-{
-    for word in words {
-        if decode(*word).is_none() {
-            return false;
-        }
-    }
-    true
-}
-
-fn may_pause(word: u64) -> bool
-    ensures { IsTrue result → is_head_of word ≡ false → pause_in word ≡ 0 }
-{
-    is_head(word) || pause(word) == 0
-}
-
-/// Whether no word without the head mark has a pause.
-fn only_heads_pause(words: &[u64]) -> bool
-    ensures { IsTrue result → All (λ w. is_head_of w ≡ false → pause_in w ≡ 0) words.now }
-{
-    for word in words {
-        if !may_pause(*word) {
-            return false;
-        }
-    }
-    true
-}
-
-/// Whether the words are a block that has times.
-fn is_timed(words: &[u64]) -> bool
-    ensures { IsTrue result → IsTimed words.now }
-{
-    if words.is_empty() || words.len() > 512 {
-        return false;
-    }
-    if !is_head(words[0]) || !are_readable(words) {
-        return false;
-    }
-    only_heads_pause(words)
-}
-
 #[test]
 fn block_times(rt: HostRuntime) -> Result<(), Fail> {
-    let cases: [(&[u64], &[u32], u32); 4] = [
+    let cases: [(&[u64], &[u32], u32); 5] = [
         // Six MultiOps of one operation each.
         (
             &[
@@ -677,13 +635,33 @@ fn block_times(rt: HostRuntime) -> Result<(), Fail> {
         ),
         // One operation with the longest pause.
         (&[0xA7EA_0000_0000_0000], &[0], 32),
+        // No operation.
+        (&[], &[], 0),
     ];
     for (words, at, end) in cases {
-        assert!(rt; is_timed(words));
+        assert!(rt; words.len() <= 512);
         let found = times(rt.alloc(), words).map_err(|_| "no memory")?;
         assert_eq!(rt; found.at.as_slice(), at);
         assert_eq!(rt; found.end, end);
     }
     same_paces();
+    issues_rise();
+    issues_by_end();
+    Ok(())
+}
+
+/// 512 MultiOps of one operation with the longest pause.
+#[test]
+fn longest_block(rt: HostRuntime) -> Result<(), Fail> {
+    let words = [0xA7EA_0000_0000_0000; 512];
+    let found = times(rt.alloc(), &words).map_err(|_| "no memory")?;
+    assert_eq!(rt; found.at.len(), 512);
+    assert_eq!(rt;
+        (found.at.first(), found.at.last()),
+        (Some(&0), Some(&16352))
+    );
+    assert_eq!(rt; found.end, 16384);
+    issues_before_end();
+    ends_in_time();
     Ok(())
 }

@@ -1,6 +1,7 @@
 // The issue cycles of a block.
-ghost use Rattle.std.specs.Prelude.{◌≡◌, IfOk, map};
-ghost use Rattle.list_encoding.specs.Times.{IsTimed, word_pace, issue_cycles, block_end};
+ghost use Rattle.std.specs.Prelude.{◌≡◌, ◌≤◌, ◌*◌, IfOk, All, map, length};
+ghost use Rattle.std.specs.List.Sorted.{IsNonDecreasing};
+ghost use Rattle.list_encoding.specs.Times.{word_pace, issue_cycles, block_end};
 
 use super::word::{is_head, pause};
 use std::alloc::Global;
@@ -15,11 +16,17 @@ pub struct Timed {
     pub end: u32,
 }
 
-/// The times of a block of words.
+/// The times of a block of at most 512 words.
+///
+/// The head marks and pauses alone decide them: a word without a reading has its place too.
 pub fn times(alloc: Global, words: &[u64]) -> Result<Timed, NoMemory>
-    requires { IsTimed words.now }
+    requires { length words.now ≤ 512 }
     ensures at { IfOk result (λ t. t.at.items ≡ issue_cycles (map word_pace words.now)) }
     ensures end { IfOk result (λ t. t.end ≡ block_end (map word_pace words.now)) }
+    ensures count { IfOk result (λ t. length t.at.items ≡ length words.now) }
+    ensures rising { IfOk result (λ t. IsNonDecreasing t.at.items) }
+    ensures within { IfOk result (λ t. All (λ n. n ≤ t.end) t.at.items) }
+    ensures bound { IfOk result (λ t. t.end ≤ 32 * length words.now) }
 {
     let mut at = Vec::with_capacity(alloc, words.len())?;
     let mut present = 0;

@@ -1,6 +1,7 @@
 // Words, both ways.
-ghost use Rattle.std.specs.Prelude.{◌≡◌, ◌<◌, IfSome, IfNone};
+ghost use Rattle.std.specs.Prelude.{◌≡◌, ◌<◌, IfSome, IfNone, option_map};
 ghost use Rattle.list_encoding.specs.Word.{HasFields, HasReading, IsReadingOf, is_head as is_head_of, pause_in};
+ghost use Rattle.list_encoding.specs.Reading.{guarded_in};
 
 use super::Coded;
 use super::bits::{append, bits};
@@ -10,7 +11,8 @@ use operation::Guarded;
 
 /// The reading of a word, None exactly where it has none.
 pub fn decode(word: u64) -> Option<Coded>
-    ensures { IsReadingOf word result }
+    ensures reading { IsReadingOf word result }
+    ensures guarded { option_map (λ c. c.guarded) result ≡ guarded_in word }
 {
     let op = operation(fields_in(word)?)?;
     let guarded = Guarded {

@@ -1,5 +1,6 @@
 use Rattle.std.proofs.Common.{◌+◌, ◌<◌, ◌++◌, ◌∷◌, [], ap, sym, ◌∙◌, length, arith}
 use Rattle.list_encoding.proofs.Issues.{timed_head, timed_other, timed_at}
+use Rattle.list_encoding.proofs.Bounds.{bounded}
 use Rattle.list_encoding.proofs.timing.times.Goals as goal
 use Rattle.list_encoding.proofs.timing.times.Goals.{then-is_head, else-is_head}
 
@@ -22,3 +23,12 @@ loop-word-preserved c =
           (timed_other words k present next before c.loop-word.invariant below (sym w.if-is_head.ensures))
           w.present-is w.next-is (pushed ∙ ap (λ t. before ++ t ∷ []) w.present-is)
     ]
+
+pub returns-clause-count : goal.returns-clause-count
+returns-clause-count c = (bounded c.args.words.now c.loop-word.word-index _ _ _ c.loop-word.invariant (omega arith)).count
+
+pub returns-clause-rising : goal.returns-clause-rising
+returns-clause-rising c = (bounded c.args.words.now c.loop-word.word-index _ _ _ c.loop-word.invariant (omega arith)).rising
+
+pub returns-clause-within : goal.returns-clause-within
+returns-clause-within c = (bounded c.args.words.now c.loop-word.word-index _ _ _ c.loop-word.invariant (omega arith)).within
