@@ -1,9 +1,9 @@
 -- Where no rule is broken, all are kept.
-use Rattle.std.proofs.Common.{◌≡◌, ℕ, zero, suc, ◌+◌, ◌*◌, ◌<◌, ◌≤◌, List, length, refl, sym, ap, ◌∙◌, arith, Bool, true, false, not, cond, ◌&&◌, Option, Some, None, lit<}
-use Rattle.std.specs.Prelude.{slice_index, find, nat_lt, nat_le, nat_eq}
-use Rattle.std.specs.Prelude.{map}
+use Rattle.std.proofs.Common.{◌≡◌, ℕ, zero, suc, ◌+◌, ◌*◌, ◌<◌, ◌≤◌, List, length, refl, sym, ap, ◌∙◌, arith, Bool, true, false, not, cond, ◌&&◌, ◌||◌, take, Option, Some, None, lit<}
+use Rattle.std.specs.Prelude.{slice_index, find, nat_lt, nat_le, nat_eq, map, codes, bytes_eq}
 use Rattle.std.specs.List.{range_with_len, list_all}
 use Rattle.std.proofs.lemmas.Bool.{and_parts, and_from, leb-true, eqb-true, le-ltb, lt-ltb, ne_eqb, not-false, cond-true, cond-false}
+use Rattle.std.proofs.lemmas.Slice.Eq.{bytes_eq-Decides}
 use Rattle.machine_desc.specs.Description.{IsDescription}
 use Rattle.machine_desc.specs.Numbers.{description as description_by, is_between, are_between}
 use Rattle.machine_desc.specs.Ranges.{in_description}
@@ -50,6 +50,11 @@ between low high n h = let p = and_parts (nat_le low n) (nat_le n high) h in (le
 looked_at : (bytes : List ℕ) → 39 ≤ length bytes → limits bytes ≡ None → least_failing (is_field_in_range bytes) 4 ≡ None
 looked_at bytes there h =
     sym (ap (λ b. cond b None (least_failing (is_field_in_range bytes) 4)) (le-ltb (length bytes) 39 there)) ∙ h
+
+version_there : (bytes : List ℕ) → 39 ≤ length bytes → version_one bytes ≡ None → nat_eq (at.version bytes) 1 ≡ true
+version_there bytes there h =
+    sym (ap (λ b. b || nat_eq (at.version bytes) 1) (le-ltb (length bytes) 6 (omega arith)))
+    ∙ kept_true (nat_lt (length bytes) 6 || nat_eq (at.version bytes) 1) h
 
 -- a test of each number of a list that is made from a range
 all_range : (p : ℕ → Bool) (f : ℕ → ℕ) (n a : ℕ) → ((i : ℕ) → i < n → p (f (a + i)) ≡ true) → list_all p (map f (range_with_len a n)) ≡ true
@@ -98,6 +103,8 @@ kept bytes h =
     let fields = none_fails (is_field_in_range bytes) 4 (looked_at bytes there c.0) in
     record {
       header = there;
+      magic = (bytes_eq-Decides (take 4 bytes) (codes "TNKI")).0 (kept_true (bytes_eq (take 4 bytes) (codes "TNKI")) a.0);
+      version = eqb-true (at.version bytes) 1 (version_there bytes there b.0);
       length = eqb-true (length bytes) (at.given_length bytes) lengths.1;
       pages = between 1 256 (at.pages bytes) (fields 0 (lit< tt));
       blocks = between 1 (512 * at.pages bytes) (at.blocks bytes) (fields 1 (lit< tt));

@@ -6,3 +6,5 @@ pub mod Pushed
 pub mod ReadBack
 pub mod NoneBroken
 pub mod Written
+pub mod ReadWritten
+pub mod EqualParts

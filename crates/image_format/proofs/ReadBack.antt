@@ -19,7 +19,7 @@ use Rattle.machine_desc.specs.Description.{Description}
 use Rattle.machine_desc.specs.Same.{unit_kinds, latency_kinds}
 use Rattle.image_format.specs.Laws.{IsRow, IsImage}
 use Rattle.image_format.proofs.Lists.{equal_parts}
-use mathlib.Core.Path.{fun_ext}
+use Rattle.image_format.proofs.EqualParts.{equal, equal_rows}
 use Rattle.image_format.specs.Bytes.{sizes, row_bytes, contents, body, bytes_of}
 
 -- things of one size, written one after another: what stands from the k-th on
@@ -64,9 +64,6 @@ row_sized r = refl
 
 pub word_sized : (w : ℕ) → length (big_bytes 8 w) ≡ 8
 word_sized w = refl
-
-equal_rows : (a b c d : ℕ) → a ≡ b → c ≡ d → (let r : Row = record { entry = a; count = c } in r) ≡ (let r : Row = record { entry = b; count = d } in r)
-equal_rows a b c d e f = cc
 
 -- a row that was written
 row_reads : (r : Row) (rest : List ℕ) → IsRow r → at.row (row_bytes r ++ rest) ≡ r
@@ -147,10 +144,6 @@ words_read i ok =
     (λ k below. All-get_or (λ w. w < 2 ^ 64) i.words k 0 below ok.ranges.words)
 
 -- the numbers of a description by kind
-equal_descriptions : (w : ℕ) (u v : UnitKind → ℕ) (l m : LatKind → ℕ) → u ≡ v → l ≡ m →
-    (let g : Description = record { width = w; units = u; latency = l } in g) ≡ (let g : Description = record { width = w; units = v; latency = m } in g)
-equal_descriptions w u v l m e f = cc
-
 units_same : (g : Description) (k : UnitKind) → slice_index (map g.units unit_kinds) (unit_number k) ≡ g.units k
 units_same g unit.I = refl
 units_same g unit.M = refl
@@ -172,8 +165,7 @@ latencies_same g lat.Branch = refl
 description_read : (i : Image) → (image_in (bytes_of i)).description ≡ i.description
 description_read i =
     let g = i.description in
-    equal_descriptions g.width (λ k. slice_index (map g.units unit_kinds) (unit_number k)) g.units
-    (λ k. slice_index (map g.latency latency_kinds) (latency_number k)) g.latency (fun_ext (units_same g)) (fun_ext (latencies_same g))
+    equal (image_in (bytes_of i)).description g (record { width = refl; units = units_same g; latency = latencies_same g })
 
 -- the image of the bytes
 pub image_read : (i : Image) → IsImage i → image_in (bytes_of i) ≡ i

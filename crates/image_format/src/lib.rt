@@ -1,8 +1,9 @@
 // Image files: their bytes taken apart into the parts of an image, and the parts written as bytes. The layer stands on
 // `machine_desc`, whose description a file carries.
 // Its contract promises the first broken rule of a file's form with its place, or the parts of its bytes
-// (specs/Rules.antt, specs/Image.antt), and that what is written is read again (specs/Bytes.antt, specs/Laws.antt). That
-// the block table and the words make sense is for the layers above.
+// (specs/Rules.antt, specs/Image.antt), that what is written is read again, and that what is read and written again is the
+// same file (specs/Bytes.antt, specs/Laws.antt): so files are equal where their parts are the same. That the block table
+// and the words make sense is for the layers above.
 #![tactic(auto)]
 
 ghost use Rattle.std.specs.Prelude.{◌≡◌};
@@ -11,12 +12,14 @@ pub mod laws;
 mod numbers;
 mod reading;
 mod rules;
+mod sameness;
 #[cfg(test)]
 mod tests;
 mod writing;
 
 use machine_desc::Mdes;
 pub use reading::read_parts;
+pub use sameness::same;
 use std::alloc::AllocError;
 pub use writing::write_parts;
 

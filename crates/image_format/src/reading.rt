@@ -5,6 +5,7 @@ ghost use Rattle.machine_desc.specs.Value.{description_of};
 ghost use Rattle.image_format.specs.Layout.{row as row_in, rows as rows_in, words as words_in, initial_offset as initial_offset_in, width, units as units_in, latency as latency_in};
 ghost use Rattle.image_format.specs.Image.{image_in, IsWithinLimits};
 ghost use Rattle.image_format.specs.Parts.{image_of};
+ghost use Rattle.image_format.specs.Bytes.{bytes_of};
 ghost use Rattle.image_format.specs.Rules.{first_broken as first_broken_rule, IsFormatFault};
 ghost use Rattle.image_format.specs.Kept.{IsKept};
 
@@ -109,10 +110,12 @@ fn parts(alloc: Global, bytes: &[u8]) -> Result<Parts, AllocError>
 }
 
 #[tactic(auto, using(crate::proofs::KeptRules::kept))]
-/// The parts of an image file, or the first broken rule of its form with its place.
+/// The parts of an image file, or the first broken rule of its form with its place. Written again, the parts give the
+/// same bytes, so that files with equal parts are equal.
 pub fn read_parts(alloc: Global, bytes: &[u8]) -> Result<Parts, FormatFault>
     ensures read { MatchResult result (λ p. (first_broken_rule bytes.now ≡ None) × (image_of p ≡ image_in bytes.now)) (IsFormatFault bytes.now) }
     ensures limits { IfOk result (λ p. IsWithinLimits (image_of p)) }
+    ensures written_again { IfOk result (λ p. bytes_of (image_of p) ≡ bytes.now) }
 {
     if let Some((rule, place)) = first_broken(bytes) {
         return Err(FormatFault::Broken(rule, place));

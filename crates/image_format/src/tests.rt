@@ -76,6 +76,31 @@ fn a_file_read_and_written(rt: HostRuntime) -> Result<(), Fail> {
     let written = write_parts(rt.alloc(), &parts).expect(&rt, "there is memory");
     assert!(rt; written == bytes);
     laws::reads_back();
+    laws::written_again();
+    Ok(())
+}
+
+#[test]
+fn files_with_the_same_parts(rt: HostRuntime) -> Result<(), Fail> {
+    // A byte of memory that isn't given, and a change of the entry, the row, the memory, a unit count, a latency, a word.
+    let whole = file(rt.alloc(), [(19, 1), (19, 1)])?;
+    let parts = read_parts(rt.alloc(), &whole).expect(&rt, "all rules are kept");
+    let cases = [
+        ((19, 1), true),
+        ((15, 1), false),
+        ((42, 1), false),
+        ((44, 4), false),
+        ((19, 2), false),
+        ((25, 2), false),
+        ((38, 2), false),
+        ((52, 0x42), false),
+        ((4140, 1), false),
+    ];
+    for (change, equal) in cases {
+        let bytes = file(rt.alloc(), [(19, 1), change])?;
+        let other = read_parts(rt.alloc(), &bytes).expect(&rt, "all rules are kept");
+        assert_eq!(rt; same(&parts, &other), equal, "{change:?}");
+    }
     Ok(())
 }
 
