@@ -1,0 +1,8 @@
+-- lemmas
+pub mod Cells
+pub mod Members
+pub mod Counting
+pub mod Stuck
+pub mod Front
+pub mod Existence
+pub mod Progress

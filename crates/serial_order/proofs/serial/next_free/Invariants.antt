@@ -1,0 +1,5 @@
+use Rattle.std.proofs.Common.{◌≡◌, ℕ, ◌<◌, true, false, slice_index, slice_index_or}
+use Rattle.serial_order.proofs.serial.next_free.Given as goal
+
+abbrev pub invariant-loop-i : goal.invariant-loop-i
+invariant-loop-i l = (k : ℕ) → k < l.i → slice_index_or l.placed k true ≡ false → slice_index l.waits k ≡ 0 → ⊥

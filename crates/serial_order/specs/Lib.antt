@@ -1,0 +1,5 @@
+pub mod Lists
+pub mod SerialOrder
+pub mod Table
+pub mod Counts
+pub mod Laws

@@ -1,0 +1,15 @@
+// The delays between a block's operations, and their serial order.
+//
+// It stands on `tnk_base`. `Delays` is a table of pairs: whether one operation is before the other, and the delay. `order`
+// promises a serial order of all operations, or the least operation of the stuck set (specs/SerialOrder.antt). `laws` says
+// what holds of orders and of the stuck set, whatever the table.
+#![tactic(auto)]
+
+pub mod laws;
+mod serial;
+mod table;
+#[cfg(test)]
+mod tests;
+
+pub use serial::{OrderFault, order};
+pub use table::Delays;
