@@ -10,3 +10,4 @@ pub mod Finding
 pub mod Running
 pub mod Afterwards
 pub mod Counting
+pub mod SoundRanges

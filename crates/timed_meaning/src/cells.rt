@@ -4,12 +4,12 @@ ghost use Rattle.timed_meaning.specs.Values.{entry_value as value_on_entry, valu
 ghost use Rattle.timed_meaning.specs.declared.Cell.TheVariants.{At, Byte};
 ghost use Rattle.timed_meaning.specs.Block.{operand, operands as operands_then, number_at as number_then};
 ghost use Rattle.operation.specs.declared.Place.TheVariants.{General, Target, Predicate};
-ghost use Rattle.operation.specs.Places.{sources};
 ghost use Rattle.timed_meaning.specs.Evaluator.{state_of};
 
 use super::values::last_write;
 use super::{Cell, Write};
-use operation::{Guarded, Op, Operands, Place};
+use operation::places::sources;
+use operation::{Guarded, Operands, Place};
 
 /// What each cell holds at the block's entry.
 #[derive(Drop)]
@@ -59,71 +59,31 @@ fn value_at(cells: &Cells, writes: &[Write], cycle: u32, cell: Cell) -> u32
     }
 }
 
-fn general(cells: &Cells, writes: &[Write], cycle: u32, n: u8) -> u32
-    ensures { result ≡ value_then (state_of cells.now) (reverse writes.now) cycle (At (General n)) }
+/// The value of a general register at a cycle, 0 where there is no such operand.
+fn general(cells: &Cells, writes: &[Write], cycle: u32, n: Option<u8>) -> u32
+    ensures { result ≡ operand General (value_then (state_of cells.now) (reverse writes.now) cycle) n }
 {
-    value_at(cells, writes, cycle, Cell::At(Place::General(n)))
-}
-
-fn first_operand(cells: &Cells, writes: &[Write], cycle: u32, op: &Op) -> u32
-    ensures { result ≡ operand General (value_then (state_of cells.now) (reverse writes.now) cycle) (sources op.now).first }
-{
-    match *op {
-        Op::Alu(_, _, s, _)
-        | Op::AluImm(_, _, s, _)
-        | Op::Mvb(_, s)
-        | Op::Mul(_, s, _)
-        | Op::Div(_, s, _)
-        | Op::Rem(_, s, _)
-        | Op::Load(_, _, s, _)
-        | Op::Store(_, _, s, _)
-        | Op::Outb(s)
-        | Op::Cmp(_, _, _, s, _)
-        | Op::CmpImm(_, _, _, s, _)
-        | Op::Halt(s) => general(cells, writes, cycle, s),
-        _ => 0,
+    match n {
+        Some(n) => value_at(cells, writes, cycle, Cell::At(Place::General(n))),
+        None => 0,
     }
 }
 
-fn second_operand(cells: &Cells, writes: &[Write], cycle: u32, op: &Op) -> u32
-    ensures { result ≡ operand General (value_then (state_of cells.now) (reverse writes.now) cycle) (sources op.now).second }
+fn target(cells: &Cells, writes: &[Write], cycle: u32, n: Option<u8>) -> u32
+    ensures { result ≡ operand Target (value_then (state_of cells.now) (reverse writes.now) cycle) n }
 {
-    match *op {
-        Op::Alu(_, _, _, s)
-        | Op::Mul(_, _, s)
-        | Op::Div(_, _, s)
-        | Op::Rem(_, _, s)
-        | Op::Cmp(_, _, _, _, s)
-        | Op::Store(_, s, _, _) => general(cells, writes, cycle, s),
-        _ => 0,
+    match n {
+        Some(n) => value_at(cells, writes, cycle, Cell::At(Place::Target(n))),
+        None => 0,
     }
 }
 
-fn target_operand(cells: &Cells, writes: &[Write], cycle: u32, op: &Op) -> u32
-    ensures { result ≡ operand Target (value_then (state_of cells.now) (reverse writes.now) cycle) (sources op.now).target }
+fn predicate(cells: &Cells, writes: &[Write], cycle: u32, n: Option<u8>) -> bool
+    ensures { result ≡ is_set (operand Predicate (value_then (state_of cells.now) (reverse writes.now) cycle) n) }
 {
-    match *op {
-        Op::Mvr(_, s) | Op::Bru(s) | Op::Brct(s, _) | Op::Brcf(s, _) | Op::Brl(_, s) => value_at(
-            cells,
-            writes,
-            cycle,
-            Cell::At(Place::Target(s)),
-        ),
-        _ => 0,
-    }
-}
-
-fn test_operand(cells: &Cells, writes: &[Write], cycle: u32, op: &Op) -> bool
-    ensures { result ≡ is_set (operand Predicate (value_then (state_of cells.now) (reverse writes.now) cycle) (sources op.now).test) }
-{
-    match *op {
-        Op::Brct(_, d) | Op::Brcf(_, d) => value_at(
-            cells,
-            writes,
-            cycle,
-            Cell::At(Place::Predicate(d)),
-        ) != 0,
-        _ => false,
+    match n {
+        Some(n) => value_at(cells, writes, cycle, Cell::At(Place::Predicate(n))) != 0,
+        None => false,
     }
 }
 
@@ -138,17 +98,13 @@ pub fn operands_at(
 ) -> Operands
     ensures { result ≡ operands_then guarded.now (value_then (state_of cells.now) (reverse writes.now) cycle) memory full }
 {
+    let from = sources(&guarded.op);
     Operands {
-        guard: value_at(
-            cells,
-            writes,
-            cycle,
-            Cell::At(Place::Predicate(guarded.guard)),
-        ) != 0,
-        first: first_operand(cells, writes, cycle, &guarded.op),
-        second: second_operand(cells, writes, cycle, &guarded.op),
-        target: target_operand(cells, writes, cycle, &guarded.op),
-        test: test_operand(cells, writes, cycle, &guarded.op),
+        guard: predicate(cells, writes, cycle, Some(guarded.guard)),
+        first: general(cells, writes, cycle, from.first),
+        second: general(cells, writes, cycle, from.second),
+        target: target(cells, writes, cycle, from.target),
+        test: predicate(cells, writes, cycle, from.test),
         memory,
         full,
     }

@@ -1,13 +1,12 @@
 // One operation issues, and a list of them up to the first trap.
 ghost use Rattle.std.specs.Prelude.{◌≡◌, ◌<◌, ◌≤◌, ◌+◌, ◌++◌, ◌^◌, [], reverse, length, slice_get, IfOk, OnOk, IfNone, IfSome, All};
 ghost use Rattle.timed_meaning.specs.Evaluator.{start_of, progress_of, acted, ran_to, StaysInside};
-ghost use Rattle.operation.specs.Places.{is_constant as is_constant_place};
 ghost use Rattle.timed_meaning.specs.Block.{to_place, to_predicate, to_predicates, bytes_at, input_or_ones, how_many, landing, act, issued, run as run_list};
 
 use super::cells::{Cells, number_at, operands_at};
 use super::{Answer, Cell, TimedOp, Write};
 use operation::numbers::{bytes, extend};
-use operation::{Effect, Op, Place, Trap, evaluate};
+use operation::{Effect, Op, Place, Trap, evaluate, is_constant};
 use std::alloc::{AllocError, Global};
 
 /// What the operations of a block have done. The list of writes has the latest listed last.
@@ -46,15 +45,6 @@ impl Work {
         self.count = 0;
         self.writes.clear();
         self.answer = Answer::GoOn;
-    }
-}
-
-fn is_constant(place: Place) -> bool
-    ensures { result ≡ is_constant_place place }
-{
-    match place {
-        Place::General(0) | Place::Predicate(0) => true,
-        _ => false,
     }
 }
 

@@ -1,16 +1,17 @@
 // What a program means cycle by cycle, under the latencies that it was made for.
 //
-// It stands on `operation`, which says what one operation does. Here are the times of a block's operations
-// (specs/Times.antt), the value of a place at a time, looked up in a list of timed writes (Values), what a block does
-// (Block), what a program does (Program) and how many cycles that takes (Cycles). `meaning` is the plain evaluator: it
-// runs one block after another, and its contract says that it answers what `mean` of Program.antt defines.
-// `meant_with_cycles` answers the cycles too. The last functions hold laws of these definitions.
+// It stands on `operation`, which says what one operation does. Here are the value of a place at a time, looked up in a
+// list of timed writes (specs/Values.antt), what a block does (Block), what a program does (Program), how many cycles
+// that takes (Cycles), and which programs are sound (Sound). `meaning` is the plain evaluator: it runs one block after
+// another, and its contract says that it answers what `mean` of Program.antt defines. `meant_with_cycles` answers the
+// cycles too. The last functions hold laws of these definitions.
 #![tactic(auto)]
 
 ghost use Rattle.timed_meaning.specs.Values.{LooksBackFromEarlier};
 ghost use Rattle.timed_meaning.specs.Block.{RunsInParts};
 ghost use Rattle.timed_meaning.specs.Program.{GoesOnFromAfter, EndsByItsBound};
 ghost use Rattle.timed_meaning.specs.Cycles.{TakesNoMoreOnceEnded};
+ghost use Rattle.timed_meaning.specs.Sound.{SoundIsInRange};
 
 mod cells;
 mod evaluate;
@@ -108,4 +109,9 @@ pub fn ends_by_its_bound()
 /// A run that has ended takes no more cycles under a greater bound.
 pub fn takes_no_more_once_ended()
     ensures { TakesNoMoreOnceEnded }
+{}
+
+/// The evaluator takes each sound program.
+pub fn sound_is_in_range()
+    ensures { SoundIsInRange }
 {}

@@ -1,28 +1,14 @@
 // The value of a cell, looking back through the writes.
 ghost use Rattle.std.specs.Prelude.{◌≡◌, reverse, Option};
-ghost use Rattle.operation.specs.Places.{same_place as is_same_place};
 ghost use Rattle.timed_meaning.specs.Values.{same_cell as is_same_cell, later as later_of, last_write as last_of, landed};
 
 use super::{Cell, Write};
-use operation::Place;
-
-fn same_place(a: Place, b: Place) -> bool
-    ensures { result ≡ is_same_place a b }
-{
-    match (a, b) {
-        (Place::General(m), Place::General(n)) => m == n,
-        (Place::Predicate(m), Place::Predicate(n)) => m == n,
-        (Place::Target(m), Place::Target(n)) => m == n,
-        (Place::Memory, Place::Memory) => true,
-        _ => false,
-    }
-}
 
 fn same_cell(a: Cell, b: Cell) -> bool
     ensures { result ≡ is_same_cell a b }
 {
     match (a, b) {
-        (Cell::At(x), Cell::At(y)) => same_place(x, y),
+        (Cell::At(x), Cell::At(y)) => x == y,
         (Cell::Byte(m), Cell::Byte(n)) => m == n,
         _ => false,
     }
