@@ -1,0 +1,4 @@
+pub mod Timing
+pub mod Before
+pub mod Law
+pub mod Example
