@@ -1,0 +1,71 @@
+-- The first of the rules that is broken, and blocks that keep them all.
+use Rattle.std.proofs.Common.{◌≡◌, ℕ, Option, Some, None, List, ◌∷◌, length, refl, sym, ap, subst, ◌∙◌}
+use Rattle.std.specs.Prelude.{map, slice_index}
+use Rattle.std.specs.List.{range_with_len}
+use Rattle.std.proofs.lemmas.Simd.{map-map}
+use Rattle.std.proofs.lemmas.List.FromFn.{fill_by_all}
+use Rattle.machine_desc.specs.declared.Mdes.{Mdes}
+use Rattle.machine_desc.specs.Description.{Description}
+use Rattle.machine_desc.specs.Value.{description_of}
+use Rattle.machine_desc.specs.Ranges.{in_description}
+use Rattle.block_table.specs.Rows.{Rows}
+use Rattle.timed_meaning.specs.declared.TimedOp.{TimedOp}
+use Rattle.latency_deps.specs.declared.rules.BlockRule.{BlockRule}
+use Rattle.latency_deps.specs.declared.rules.BlockRule.TheVariants as rule
+use Rattle.latency_deps.specs.declared.block.WordOp.{WordOp}
+use Rattle.two_timings.specs.Timing.{timed_ops}
+use Rattle.latency_deps.specs.Timing.{ops_of, own_timing}
+use Rattle.latency_deps.specs.Rules.{least_breaking, first_among, first_broken, end_of}
+use Rattle.latency_deps.specs.Block.{Block, IsGood, block_in, block_with}
+use Rattle.latency_deps.specs.Candidate.{AreTimed, word_op}
+use Rattle.latency_deps.specs.Asked.{rules_on_times}
+
+skip : (least : BlockRule → Option ℕ) (r : BlockRule) (rs : List BlockRule) → least r ≡ None → first_among least (r ∷ rs) ≡ first_among least rs
+skip least r rs e = ap (λ (o : Option ℕ). elim o as (λ _. Option (BlockRule × ℕ)) [ Some k ↦ Some (r, k) | None ↦ first_among least rs ]) e
+
+here : (least : BlockRule → Option ℕ) (r : BlockRule) (rs : List BlockRule) (k : ℕ) → least r ≡ Some k → first_among least (r ∷ rs) ≡ Some (r, k)
+here least r rs k e = ap (λ (o : Option ℕ). elim o as (λ _. Option (BlockRule × ℕ)) [ Some k ↦ Some (r, k) | None ↦ first_among least rs ]) e
+
+module _ (g : Description) (rows : Rows) (words : List ℕ) where
+  abbrev least : BlockRule → Option ℕ
+  least = least_breaking g rows words
+
+  pub at_unit : (k : ℕ) → least rule.Opcode ≡ None → least rule.Unit ≡ Some k → first_broken g rows words ≡ Some (rule.Unit, k)
+  at_unit k a b = skip least rule.Opcode (rule.Unit ∷ (rule.Head ∷ rules_on_times)) a ∙ here least rule.Unit (rule.Head ∷ rules_on_times) k b
+
+  pub at_head : (k : ℕ) → least rule.Opcode ≡ None → least rule.Unit ≡ None → least rule.Head ≡ Some k → first_broken g rows words ≡ Some (rule.Head, k)
+  at_head k a b c =
+      skip least rule.Opcode (rule.Unit ∷ (rule.Head ∷ rules_on_times)) a ∙ skip least rule.Unit (rule.Head ∷ rules_on_times) b ∙ here least rule.Head rules_on_times k c
+
+  pub at_times : least rule.Opcode ≡ None → least rule.Unit ≡ None → least rule.Head ≡ None → first_broken g rows words ≡ first_among least rules_on_times
+  at_times a b c =
+      skip least rule.Opcode (rule.Unit ∷ (rule.Head ∷ rules_on_times)) a ∙ skip least rule.Unit (rule.Head ∷ rules_on_times) b ∙ skip least rule.Head rules_on_times c
+
+same_block : (a b : List ℕ) (c d : List TimedOp) (m n : ℕ) → a ≡ b → c ≡ d → m ≡ n →
+    ◌≡◌ {A = Block} (record { words = a; ops = c; end = m }) (record { words = b; ops = d; end = n })
+same_block a b c d m n e f h = cc
+
+-- words with their operations and times are the block of the words
+pub built : (g : Description) (words : List ℕ) (ops : List WordOp) (end : ℕ) → AreTimed g words ops end → block_with ops end ≡ block_in g words
+built g words ops end h =
+    let numbers = range_with_len 0 (length words) in
+    let word = λ (o : WordOp). o.word in
+    let time = λ (o : WordOp). o.timed in
+    same_block _ words _ (timed_ops (ops_of words) (own_timing g words)) end (end_of words)
+    (ap (map word) h.each ∙ map-map word (word_op g words) numbers ∙ sym (fill_by_all (slice_index words) words (length words) 0 refl (λ k below. refl)))
+    (ap (map time) h.each ∙ map-map time (word_op g words) numbers)
+    h.last
+
+-- it is good where the words keep the rules
+pub made_good :
+    (m : Mdes) (rows : Rows) (words : List ℕ) (ops : List WordOp) (end : ℕ) → AreTimed (description_of m) words ops end →
+    first_broken (description_of m) rows words ≡ None → IsGood (block_with ops end)
+made_good m rows words ops end h kept = subst IsGood (sym (built (description_of m) words ops end h)) (record {
+  some = h.some;
+  few = h.few;
+  description = description_of m;
+  in_range = in_description m.width m.units m.latency m.in_range;
+  rows = rows;
+  kept = kept;
+  built = refl;
+})

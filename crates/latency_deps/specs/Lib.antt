@@ -1,0 +1,9 @@
+pub mod Timing
+pub mod Issue
+pub mod Tests
+pub mod Rules
+pub mod Block
+pub mod Candidate
+pub mod Asked
+pub mod Page
+pub mod Laws
