@@ -1,0 +1,5 @@
+pub mod Blocks
+pub mod Rules
+pub mod Faults
+pub mod Paging
+pub mod Accepted
