@@ -12,16 +12,24 @@ ghost use Rattle.tinker_top.specs.Words.{Usage, command_of, asked_for};
 ghost use Rattle.tinker_top.specs.Command.{command, outcome_of};
 ghost use Rattle.tinker_top.specs.Top.{IsDone, IsPartOf, IsReady, AsksPart};
 
-mod image;
+mod commands;
+#[cfg(test)]
+mod images;
+#[cfg(test)]
+mod programs;
+mod refusals;
 mod report;
-mod running;
 mod said;
+mod settings;
 mod steps;
 #[cfg(test)]
 mod tests;
 mod words;
+#[cfg(test)]
+mod worked;
 
-use running::run;
+use commands::{check, play};
+use report::Shown;
 use said::Said;
 use std::alloc::Global;
 use steps::{Stop, put};
@@ -63,6 +71,8 @@ fn perform<H: Host>(alloc: Global, host: &mut H, command: &Command) -> Result<Sa
             status: 2,
             text: b"usage: see the manual\n".to_vec(alloc)?,
         }),
-        Command::Run(image) => run(alloc, host, image),
+        Command::Check(image) => check(alloc, host, image),
+        Command::Meaning(setup) => play(alloc, host, Shown::Part, setup),
+        Command::Run(setup) => play(alloc, host, Shown::Whole, setup),
     }
 }

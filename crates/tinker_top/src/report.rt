@@ -1,8 +1,16 @@
-// The text of a run.
-ghost use Rattle.std.specs.Prelude.{Some, ◌≡◌, ◌<◌, ◌≤◌, ◌*◌, ◌^◌, ◌++◌, ◌∷◌, [], length, OnOk, IfOk, string_bytes, encode_utf8};
-ghost use Rattle.timed_meaning.specs.Program.{IsInRange, meaning_of, program_of};
-ghost use Rattle.tinker_top.specs.Report.{kind_name as name_of, end_text, hex, hex_digit as digit_of, hex_line, hex_lines, heading, cycles_line, part as part_text, report as report_text, usual_report as usual_text};
+// The texts of a check and of a run.
+ghost use Rattle.std.specs.Prelude.{Some, ◌≡◌, ◌<◌, ◌≤◌, ◌*◌, ◌^◌, ◌++◌, ◌∷◌, [], length, map, sum, nat_eq, OnOk, IfOk, string_bytes, encode_utf8};
+ghost use Rattle.std.specs.List.{list_all};
+ghost use Rattle.timed_meaning.specs.Program.{meaning_of, program_of};
+ghost use Rattle.timed_meaning.specs.Sound.{IsSound};
+ghost use Rattle.image_format.specs.Image.{image_in};
+ghost use Rattle.tinker_top.specs.Words.{given};
+ghost use Rattle.tinker_top.specs.Report.{kind_name as name_of, end_text, hex, hex_digit as digit_of, hex_line, hex_lines, heading, memory_heading, memory_row as row_of, row_line, memory_line, memory_lines, memory_part, cycles_line, part as part_text, limit_of, bound_of, meant as meant_by, cycles_of, shown_text, accepted_line, accepted_text};
 
+use super::settings::Settings;
+use byteorder::{BigEndian, ByteOrder};
+use image_check::Accepted;
+use image_format::Row;
 use operation::{End, TrapKind};
 use std::alloc::{AllocError, Global};
 use std::fmt;
@@ -12,11 +20,15 @@ use tnk_base::NoMemory;
 /// Bytes on a line of output.
 const LINE: usize = 32;
 
-/// The most bytes that a program may put out, where no word says so.
-const OUTPUT_LIMIT: u32 = 65_536;
+/// Bytes on a line of memory.
+const ROW: usize = 16;
 
-/// The most blocks that a program may run, where no word says so.
-const BLOCK_BOUND: u32 = 100_000;
+/// How much of a report is put out: context 0's part, or all.
+#[derive(Clone, Copy, Debug, PartialEq, Eq)]
+pub enum Shown {
+    Part,
+    Whole,
+}
 
 /// The name of a kind of trap.
 #[derive(Clone, Copy)]
@@ -113,12 +125,81 @@ fn push_heading(text: &mut String, index: u8, meant: &Meant) -> Result<(), Alloc
     )
 }
 
+/// The bytes of memory from `16 * i` on, 16 of them, or fewer where the memory ends.
+fn memory_row(memory: &[u8], i: usize) -> &[u8]
+    requires { 16 * i ≤ length memory.now }
+    ensures { result.now ≡ row_of memory.now i }
+{
+    let rest = &memory[ROW * i..];
+    &rest[..rest.len().min(ROW)]
+}
+
+fn is_zero(row: &[u8]) -> bool
+    ensures { result ≡ list_all (λ b. nat_eq b 0) row.now }
+{
+    row.iter().all(|byte| *byte == 0)
+}
+
+/// A row of memory that isn't all 0, with its address.
+fn push_memory_row(text: &mut String, row: &[u8], i: usize) -> Result<(), AllocError>
+    requires { 16 * i < 2 ^ 64 }
+    ensures { OnOk result (string_bytes text.new ≡ string_bytes text.old ++ row_line row.now i) }
+{
+    let mut address = [0; 8];
+    BigEndian::write_u64(&mut address, 16 * i as u64);
+    push_hex(text, &address[4..])?;
+    text.push_str(" ")?;
+    push_hex(text, row)?;
+    text.push_str("\n")?;
+    Ok(())
+}
+
+/// The row `i` of memory, unless it is all 0.
+fn push_memory_line(text: &mut String, row: &[u8], i: usize) -> Result<(), AllocError>
+    requires { 16 * i < 2 ^ 64 }
+    ensures { OnOk result (string_bytes text.new ≡ string_bytes text.old ++ memory_line row.now i) }
+{
+    if !is_zero(row) {
+        push_memory_row(text, row, i)?;
+    }
+    Ok(())
+}
+
+/// All rows of memory that aren't all 0.
+fn push_memory_lines(text: &mut String, memory: &[u8]) -> Result<(), AllocError>
+    ensures { OnOk result (string_bytes text.new ≡ string_bytes text.old ++ memory_lines memory.now) }
+{
+    for i in 0..memory.len().div_ceil(ROW) {
+        push_memory_line(text, memory_row(memory, i), i)?;
+    }
+    Ok(())
+}
+
+#[tactic(auto, unfolding(crate::specs::Report::memory_heading))]
+fn push_memory_heading(text: &mut String, size: usize) -> Result<(), AllocError>
+    ensures { OnOk result (string_bytes text.new ≡ string_bytes text.old ++ memory_heading size) }
+{
+    writeln!(text, "memory {size}")
+}
+
+/// The memory, where it is shown.
+fn push_memory(text: &mut String, dump: bool, memory: &[u8]) -> Result<(), AllocError>
+    ensures { OnOk result (string_bytes text.new ≡ string_bytes text.old ++ memory_part dump memory.now) }
+{
+    if dump {
+        push_memory_heading(text, memory.len())?;
+        push_memory_lines(text, memory)?;
+    }
+    Ok(())
+}
+
 /// A context's part.
-fn push_part(text: &mut String, index: u8, meant: &Meant) -> Result<(), AllocError>
-    ensures { OnOk result (string_bytes text.new ≡ string_bytes text.old ++ part_text index (meaning_of meant.now)) }
+fn push_part(text: &mut String, index: u8, dump: bool, meant: &Meant) -> Result<(), AllocError>
+    ensures { OnOk result (string_bytes text.new ≡ string_bytes text.old ++ part_text index dump (meaning_of meant.now)) }
 {
     push_heading(text, index, meant)?;
     push_hex_lines(text, &meant.output)?;
+    push_memory(text, dump, &meant.memory)?;
     Ok(())
 }
 
@@ -129,23 +210,92 @@ fn push_cycles(text: &mut String, index: u8, cycles: u64) -> Result<(), AllocErr
     writeln!(text, "cycles {index} {cycles}")
 }
 
-/// The report of a program's run with no input, under an output limit in bytes and a bound in blocks.
-fn report(alloc: Global, program: &Program, limit: u32, bound: u32) -> Result<Vec<u8>, NoMemory>
-    requires program { IsInRange (program_of program.now) }
-    requires bound { bound ≤ 1000000 }
-    ensures { IfOk result (λ text. text.items ≡ report_text (program_of program.now) limit bound) }
+/// The most bytes that a program may put out.
+fn limit(settings: &Settings) -> u32
+    ensures { result ≡ limit_of (given settings.now) }
 {
-    let (meant, cycles) = meant_with_cycles(alloc, program, &[], limit, bound)?;
+    settings.limit.unwrap_or(65_536)
+}
+
+/// The most blocks that a program may run.
+fn bound(settings: &Settings) -> u32
+    ensures value { result ≡ bound_of (given settings.now) }
+    ensures most { result ≤ 1000000 }
+{
+    settings.bound.unwrap_or(100_000)
+}
+
+/// What a program's run means, and the cycles that it takes.
+#[tactic(auto, unfolding(crate::specs::Report::meant, crate::specs::Report::cycles_of))]
+fn play(
+    alloc: Global,
+    settings: &Settings,
+    program: &Program,
+    input: &[u8],
+) -> Result<(Meant, u64), NoMemory>
+    requires { IsSound (program_of program.now) }
+    ensures meant { IfOk result (λ both. meaning_of both.0 ≡ meant_by (given settings.now) (program_of program.now) input.now) }
+    ensures cycles { IfOk result (λ both. both.1 ≡ cycles_of (given settings.now) (program_of program.now) input.now) }
+{
+    meant_with_cycles(alloc, program, input, limit(settings), bound(settings))
+}
+
+/// What is put out of a program's run with an input: context 0's part, and the cycles where they are told.
+pub fn report(
+    alloc: Global,
+    shown: Shown,
+    settings: &Settings,
+    program: &Program,
+    input: &[u8],
+) -> Result<Vec<u8>, NoMemory>
+    requires { IsSound (program_of program.now) }
+    ensures { IfOk result (λ text. text.items ≡ shown_text shown (given settings.now) (program_of program.now) input.now) }
+{
+    let (meant, cycles) = play(alloc, settings, program, input)?;
     let mut text = String::new(alloc);
-    push_part(&mut text, 0, &meant)?;
-    push_cycles(&mut text, 0, cycles)?;
+    push_part(&mut text, 0, settings.dump, &meant)?;
+    if let Shown::Whole = shown {
+        push_cycles(&mut text, 0, cycles)?;
+    }
     Ok(text.into_bytes())
 }
 
-/// The report under the usual limits.
-pub fn usual_report(alloc: Global, program: &Program) -> Result<Vec<u8>, NoMemory>
-    requires { IsInRange (program_of program.now) }
-    ensures { IfOk result (λ text. text.items ≡ usual_text (program_of program.now)) }
+/// How many words the rows have in all.
+fn words_in(rows: &[Row]) -> u64
+    requires { length rows.now ≤ 2 ^ 20 }
+    ensures { result ≡ sum (map (λ r. r.count) rows.now) }
 {
-    report(alloc, program, OUTPUT_LIMIT, BLOCK_BOUND)
+    let mut words = 0;
+    for row in rows {
+        words += row.count as u64;
+    }
+    words
+}
+
+/// The line of an accepted image, by its numbers of pages, blocks and words in blocks.
+#[tactic(auto, unfolding(crate::specs::Report::accepted_line))]
+fn push_accepted(
+    text: &mut String,
+    name: &str,
+    pages: usize,
+    blocks: usize,
+    words: u64,
+) -> Result<(), AllocError>
+    ensures { OnOk result (string_bytes text.new ≡ string_bytes text.old ++ accepted_line name.now pages blocks words) }
+{
+    writeln!(
+        text,
+        "accepted {name} pages {pages} blocks {blocks} words {words}"
+    )
+}
+
+/// What is put out of an accepted image.
+pub fn accepted(alloc: Global, name: &str, image: &Accepted) -> Result<Vec<u8>, AllocError>
+    ensures { IfOk result (λ text. text.items ≡ accepted_text name.now (image_in image.now)) }
+{
+    let parts = image.parts();
+    let (pages, blocks) = (parts.words.len() / 512, parts.rows.len());
+    let mut text = String::new(alloc);
+    push_accepted(&mut text, name, pages, blocks, words_in(&parts.rows))?;
+    Ok(text.into_bytes())
 }
