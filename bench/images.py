@@ -1,0 +1,76 @@
+"""Images for timing, laid out byte by byte: `python3 images.py FOLDER` writes them there."""
+
+import os
+import struct
+import sys
+
+# The description: width, units of I M L P B, latencies of alu mul div load store io cmp pbr branch.
+WIDE = (16, 8, 8, 8, 8, 8) + (1,) * 9
+
+UNITS = {"I": 0, "M": 1, "L": 2, "P": 3, "B": 4}
+
+
+def word(opcode, unit, d=0, s=0, tail=0, head=True):
+    """An operation word under the guard p0, without a pause."""
+    return head << 63 | UNITS[unit] << 59 | opcode << 47 | d << 37 | s << 32 | tail
+
+
+def addi(d, s, number, head=True):
+    return word(17, "I", d, s, number, head)
+
+
+def pbr(d, address, head=True):
+    return word(33, "I", d, 0, address, head)
+
+
+def ldw(d, s, number, head=True):
+    return word(48, "L", d, s, number, head)
+
+
+def stw(d, s, number, head=True):
+    return word(53, "L", d, s, number, head)
+
+
+def bru(s, head=True):
+    return word(80, "B", 0, s, 0, head)
+
+
+def halt(s, head=True):
+    return word(84, "B", 0, s, 0, head)
+
+
+def image(pages, blocks, memory=0, init=b"", description=WIDE):
+    """The file of an image that begins at its first block; a block is its entry and its words."""
+    words = [0] * (512 * pages)
+    for entry, block in blocks:
+        words[entry : entry + len(block)] = block
+    header = struct.pack(">4sHHIIII", b"TNKI", 1, pages, len(blocks), blocks[0][0], memory, len(init))
+    rows = b"".join(struct.pack(">IH", entry, len(block)) for entry, block in blocks)
+    return header + bytes(description) + rows + init + struct.pack(f">{len(words)}Q", *words)
+
+
+def loop():
+    """A block of five operations that goes to itself, over the largest memory."""
+    block = [addi(1, 1, 4), ldw(2, 1, 0), stw(2, 1, 0), pbr(1, 0), bru(1)]
+    return image(1, [(0, block)], memory=1_048_576)
+
+
+def single_words():
+    """As many blocks as there can be, of one operation each, and as many bytes as an image can have."""
+    return image(256, [(k, [halt(0)]) for k in range(131_072)], 1_048_576, bytes(1_048_576))
+
+
+def full_pages():
+    """A block on each page that fills it, with eight operations in nearly each MultiOp."""
+    adds = [addi(1 + k % 8, 9 + k % 16, k, head=k % 8 == 0) for k in range(511)]
+    return image(256, [(512 * n, adds + [halt(0)]) for n in range(256)], 1_048_576, bytes(1_048_576))
+
+
+def main():
+    for name, make in [("loop", loop), ("single_words", single_words), ("full_pages", full_pages)]:
+        with open(os.path.join(sys.argv[1], name), "wb") as out:
+            out.write(make())
+
+
+if __name__ == "__main__":
+    main()

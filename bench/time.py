@@ -1,0 +1,46 @@
+"""Times the built program: `python3 bench/time.py [PROGRAM]`, after `rt ci` or `rt run` has built it.
+
+Each line tells the command, the seconds of the quickest of five runs, and the most memory that it took as a multiple of
+its file. The images are written by another process, so that this one stays small: the system counts its memory, some
+10 million bytes, as the least that a child takes.
+"""
+
+import os
+import subprocess
+import sys
+import tempfile
+import time
+
+RUNS = 5
+
+
+def run(program, folder, words):
+    """The seconds and the greatest memory of one run."""
+    begun = time.perf_counter()
+    child = subprocess.Popen([program, *words], cwd=folder, stdout=subprocess.DEVNULL)
+    _, status, usage = os.wait4(child.pid, 0)
+    seconds = time.perf_counter() - begun
+    if status != 0:
+        sys.exit(f"{' '.join(words)}: status {status}")
+    return seconds, usage.ru_maxrss * 1024
+
+
+def measure(program, folder, words):
+    size = os.path.getsize(os.path.join(folder, words[1]))
+    runs = [run(program, folder, words) for _ in range(RUNS)]
+    seconds, memory = min(r[0] for r in runs), max(r[1] for r in runs)
+    print(f"{' '.join(words)}: {seconds:.3f} s, {memory} bytes, {memory / size:.1f} times the file of {size}")
+
+
+def main():
+    here = os.path.dirname(os.path.abspath(__file__))
+    program = os.path.abspath(sys.argv[1] if len(sys.argv) > 1 else os.path.join(here, "../crates/tinker/out/tinker"))
+    with tempfile.TemporaryDirectory() as folder:
+        subprocess.run([sys.executable, os.path.join(here, "images.py"), folder], check=True)
+        measure(program, folder, ["check", "single_words"])
+        measure(program, folder, ["check", "full_pages"])
+        measure(program, folder, ["meaning", "loop", "-"])
+        measure(program, folder, ["run", "loop", "own", "-"])
+
+
+main()
