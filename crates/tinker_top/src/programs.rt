@@ -1,5 +1,5 @@
-// Worked programs, each in an image of one page: the whole text that `meaning` and `run` put out of it. The words were
-// assembled apart from this program, and the texts worked out by hand.
+// Worked images of one page, and the line that `check` puts out of each. The words were assembled apart from this
+// program.
 use super::images::{Image, ONES, done};
 use std::alloc::Global;
 use std::test::Fail;
@@ -8,8 +8,6 @@ use std::test::Fail;
 const T1: [u8; 15] = [2, 1, 1, 1, 1, 1, 1, 3, 8, 2, 1, 1, 1, 1, 1];
 
 const T2: [u8; 15] = [4, 2, 1, 1, 1, 1, 1, 2, 12, 3, 1, 1, 1, 1, 2];
-
-const T3: [u8; 15] = [8, 4, 2, 2, 2, 1, 2, 4, 16, 5, 2, 2, 2, 1, 3];
 
 const THREE_COMPARES: [u8; 15] = [4, 1, 1, 1, 3, 1, 1, 1, 1, 1, 1, 1, 1, 1, 1];
 
@@ -21,97 +19,6 @@ const ECHO: Image = Image {
     blocks: &[(
         0,
         &[0x901c002000000000, 0x901c800100000000, 0xa02a000100000000],
-    )],
-};
-// ceqi p1.un, p0.un, r0, 0 | (p2) ceqi p1.un, p0.un, r0, 0 | (p1) addi r1, r0, 65 | outb r1 | halt r0
-const CLEARED: Image = Image {
-    description: T1,
-    memory: 0,
-    init: &[],
-    blocks: &[(
-        0,
-        &[
-            0x9824002000000000,
-            0x9824082000000000,
-            0x8008842000000041,
-            0x901c800100000000,
-            0xa02a000000000000,
-        ],
-    )],
-};
-// addi r1, r0, 1 | mvb b1, r1 | bru b1
-const NOWHERE: Image = Image {
-    description: T1,
-    memory: 0,
-    init: &[],
-    blocks: &[(
-        0,
-        &[0x8008802000000001, 0x8011002100000000, 0xa028000100000000],
-    )],
-};
-// addi r1, r0, 65 | outb r1 | outb r1 | halt r0
-const TWICE: Image = Image {
-    description: T1,
-    memory: 0,
-    init: &[],
-    blocks: &[(
-        0,
-        &[
-            0x8008802000000041,
-            0x901c800100000000,
-            0x901c800100000000,
-            0xa02a000000000000,
-        ],
-    )],
-};
-// pbr b1, 0 | bru b1
-const FOREVER: Image = Image {
-    description: T1,
-    memory: 0,
-    init: &[],
-    blocks: &[(0, &[0x8010802000000000, 0xa028000100000000])],
-};
-// addi r1, r0, 65 | ldw r1, r0, 0 | addi r2, r1, 0 | outb r2 | outb r1 | halt r0
-const OLD_VALUE: Image = Image {
-    description: T1,
-    memory: 4,
-    init: &[66, 0, 0, 0],
-    blocks: &[(
-        0,
-        &[
-            0x8008802000000041,
-            0x9018002000000000,
-            0x8008804100000000,
-            0x901c800200000000,
-            0x901c800100000000,
-            0xa02a000000000000,
-        ],
-    )],
-};
-// addi r1, r0, 7 ;; pause 1 | stw r1, r0, 0 , div r2, r1, r0 , stw r1, r0, 4 ;; pause 12 | halt r0 ;; pause 2
-const TRAPPED: Image = Image {
-    description: T3,
-    memory: 8,
-    init: &[],
-    blocks: &[(
-        0,
-        &[
-            0x8048802000000007,
-            0x931a802000000000,
-            0x0814804100000000,
-            0x101a802000000004,
-            0xa0aa000000000000,
-        ],
-    )],
-};
-// ldw r1, r0, 4096 | div r2, r0, r0 ;; pause 6 | halt r0
-const BEYOND: Image = Image {
-    description: T1,
-    memory: 0,
-    init: &[],
-    blocks: &[(
-        0,
-        &[0x9018002000001000, 0x8994804000000000, 0xa02a000000000000],
     )],
 };
 // three `ceqi p1.on, p0.un, r0, n` in one MultiOp, n = 0, 1, 2 | (p1) addi r1, r0, 65 | outb r1 | halt r0
@@ -131,48 +38,6 @@ const WIRED: Image = Image {
         ],
     )],
 };
-// addi r2, r0, 0xabcd1234 | sth r2, r0, 2 | stb r2, r0, 1 | ldw r3, r0, 0 | halt r3
-const STORED: Image = Image {
-    description: ONES,
-    memory: 8,
-    init: &[128, 255, 127, 1, 254, 0, 18, 52],
-    blocks: &[(
-        0,
-        &[
-            0x80088040abcd1234,
-            0x901b004000000002,
-            0x901b804000000001,
-            0x9018006000000000,
-            0xa02a000300000000,
-        ],
-    )],
-};
-// addi r1, r0, 9 | mvb b3, r1 | mvr r3, b3 | halt r3
-const TARGET: Image = Image {
-    description: ONES,
-    memory: 0,
-    init: &[],
-    blocks: &[(
-        0,
-        &[
-            0x8008802000000009,
-            0x8011006100000000,
-            0x8011806300000000,
-            0xa02a000300000000,
-        ],
-    )],
-};
-// pbr b1, 20 | brl b2, b1, and at 5: mvr r3, b2 | halt r3, and at 20: bru b2
-const CALLED: Image = Image {
-    description: ONES,
-    memory: 0,
-    init: &[],
-    blocks: &[
-        (0, &[0x8010802000000014, 0xa029804100000000]),
-        (5, &[0x8011806200000000, 0xa02a000300000000]),
-        (20, &[0xa028000200000000]),
-    ],
-};
 // ceqi p1.un, p2.uc, r0, 0 | pbr b1, 30 | brct b1, p2, and at 10: brcf b1, p2, and at 20: outb r0 | halt r0, and at
 // 30: addi r5, r0, 3 | halt r5
 const CHOSEN: Image = Image {
@@ -188,44 +53,6 @@ const CHOSEN: Image = Image {
         (20, &[0x901c800000000000, 0xa02a000000000000]),
         (30, &[0x800880a000000003, 0xa02a000500000000]),
     ],
-};
-// (p1) bru b1, and at 1: (p1) halt r0, and at 2: addi r1, r0, 4 | halt r1
-const GUARDED: Image = Image {
-    description: ONES,
-    memory: 0,
-    init: &[],
-    blocks: &[
-        (0, &[0xa028040100000000]),
-        (1, &[0xa02a040000000000]),
-        (2, &[0x8008802000000004, 0xa02a000100000000]),
-    ],
-};
-// addi r1, r0, 2 | mul r1, r1, r1 | outb r1 | addi r2, r0, 0 | outb r1 | halt r1
-const SHADOWED: Image = Image {
-    description: T1,
-    memory: 0,
-    init: &[],
-    blocks: &[(
-        0,
-        &[
-            0x8008802000000002,
-            0x8814002100000001,
-            0x901c800100000000,
-            0x8008804000000000,
-            0x901c800100000000,
-            0xa02a000100000000,
-        ],
-    )],
-};
-// addi r1, r0, 1 | stb r1, r0, 19 | halt r0
-const LAST_BYTE: Image = Image {
-    description: ONES,
-    memory: 20,
-    init: &[],
-    blocks: &[(
-        0,
-        &[0x8008802000000001, 0x901b802000000013, 0xa02a000000000000],
-    )],
 };
 // halt r0 ;; pause 1
 const EARLY_END: Image = Image {
@@ -268,144 +95,6 @@ const AT_ODDS: Image = Image {
         ],
     )],
 };
-
-// The program, its input, the settings, what `meaning` puts out behind `context 0` and `end`, and the cycles of `run`.
-#[test]
-fn programs(rt: HostRuntime) -> Result<(), Fail> {
-    let alloc = rt.alloc();
-    let cases: [(&Image, &str, &[&str], &str, u64); 22] = [
-        (&ECHO, "in", &[], "halted 122\nblocks 1\noutput 1\n7a\n", 3),
-        (
-            &ECHO,
-            "-",
-            &[],
-            "halted 4294967295\nblocks 1\noutput 1\nff\n",
-            3,
-        ),
-        (&CLEARED, "-", &[], "halted 0\nblocks 1\noutput 1\n00\n", 5),
-        (
-            &NOWHERE,
-            "-",
-            &[],
-            "trap BadTarget block 0 value 1\nblocks 1\noutput 0\n",
-            3,
-        ),
-        (
-            &TWICE,
-            "-",
-            &["limit=1"],
-            "trap OutputFull block 0 value 65\nblocks 0\noutput 1\n41\n",
-            3,
-        ),
-        (
-            &TWICE,
-            "-",
-            &["limit=2"],
-            "halted 0\nblocks 1\noutput 2\n4141\n",
-            4,
-        ),
-        (
-            &FOREVER,
-            "-",
-            &["bound=3"],
-            "bound\nblocks 3\noutput 0\n",
-            6,
-        ),
-        (
-            &FOREVER,
-            "-",
-            &[],
-            "bound\nblocks 100000\noutput 0\n",
-            200000,
-        ),
-        (
-            &ECHO,
-            "-",
-            &["bound=1"],
-            "halted 4294967295\nblocks 1\noutput 1\nff\n",
-            3,
-        ),
-        (
-            &OLD_VALUE,
-            "-",
-            &[],
-            "halted 0\nblocks 1\noutput 2\n4142\n",
-            6,
-        ),
-        (
-            &OLD_VALUE,
-            "-",
-            &["dump=yes"],
-            "halted 0\nblocks 1\noutput 2\n4142\nmemory 4\n00000000 42000000\n",
-            6,
-        ),
-        (
-            &TRAPPED,
-            "-",
-            &["dump=yes"],
-            "trap DivideByZero block 0 value 7\nblocks 0\noutput 0\nmemory 8\n00000000 0700000000000000\n",
-            3,
-        ),
-        (
-            &BEYOND,
-            "-",
-            &["dump=yes"],
-            "trap OutOfRange block 0 value 4096\nblocks 0\noutput 0\nmemory 0\n",
-            1,
-        ),
-        (&WIRED, "-", &[], "halted 0\nblocks 1\noutput 1\n41\n", 4),
-        (
-            &STORED,
-            "-",
-            &["dump=yes"],
-            "halted 305411200\nblocks 1\noutput 0\nmemory 8\n00000000 80343412fe001234\n",
-            5,
-        ),
-        (&TARGET, "-", &[], "halted 9\nblocks 1\noutput 0\n", 4),
-        (&CALLED, "-", &[], "halted 5\nblocks 3\noutput 0\n", 5),
-        (&CHOSEN, "-", &[], "halted 3\nblocks 3\noutput 0\n", 6),
-        (&GUARDED, "-", &[], "halted 4\nblocks 3\noutput 0\n", 4),
-        (
-            &GUARDED,
-            "-",
-            &["bound=2"],
-            "bound\nblocks 2\noutput 0\n",
-            2,
-        ),
-        (
-            &SHADOWED,
-            "-",
-            &[],
-            "halted 4\nblocks 1\noutput 2\n0204\n",
-            6,
-        ),
-        (
-            &LAST_BYTE,
-            "-",
-            &["dump=yes", "bound=5", "limit=7"],
-            "halted 0\nblocks 1\noutput 0\nmemory 20\n00000010 00000001\n",
-            3,
-        ),
-    ];
-    for (program, input, settings, part, cycles) in cases {
-        let x = program.bytes(alloc)?;
-        let part = format!(in alloc; "context 0\nend {part}")?;
-        let whole = format!(in alloc; "{part}cycles 0 {cycles}\n")?;
-        for (verb, own, text) in [("meaning", None, &part), ("run", Some("own"), &whole)] {
-            let mut words = vec![in alloc; verb]?;
-            words.extend_from_slice(settings)?;
-            words.push("x")?;
-            if let Some(own) = own {
-                words.push(own)?;
-            }
-            words.push(input)?;
-            let (status, host) = done(alloc, &x, b"z", &[], &words)?;
-            assert_eq!(rt; status, 0, "{part}");
-            assert_eq!(rt; host.out(), text.as_bytes(), "{part}");
-        }
-    }
-    Ok(())
-}
 
 // Images that `check` accepts or refuses.
 #[test]
