@@ -1,5 +1,5 @@
 -- The first of the rules that is broken, and blocks that keep them all.
-use Rattle.std.proofs.Common.{◌≡◌, ℕ, Option, Some, None, List, ◌∷◌, length, refl, sym, ap, subst, ◌∙◌}
+use Rattle.std.proofs.Common.{◌≡◌, ℕ, Option, Some, None, List, [], ◌∷◌, ◌++◌, length, refl, sym, ap, subst, ◌∙◌}
 use Rattle.std.specs.Prelude.{map, slice_index}
 use Rattle.std.specs.List.{range_with_len}
 use Rattle.std.proofs.lemmas.Simd.{map-map}
@@ -18,7 +18,7 @@ use Rattle.latency_deps.specs.Timing.{ops_of, own_timing}
 use Rattle.latency_deps.specs.Rules.{least_breaking, first_among, first_broken, end_of}
 use Rattle.latency_deps.specs.Block.{Block, IsGood, block_in, block_with}
 use Rattle.latency_deps.specs.Candidate.{AreTimed, word_op}
-use Rattle.latency_deps.specs.Asked.{rules_on_times}
+use Rattle.latency_deps.specs.Asked.{rules_on_times, rules_from_times}
 
 skip : (least : BlockRule → Option ℕ) (r : BlockRule) (rs : List BlockRule) → least r ≡ None → first_among least (r ∷ rs) ≡ first_among least rs
 skip least r rs e = ap (λ (o : Option ℕ). elim o as (λ _. Option (BlockRule × ℕ)) [ Some k ↦ Some (r, k) | None ↦ first_among least rs ]) e
@@ -26,20 +26,55 @@ skip least r rs e = ap (λ (o : Option ℕ). elim o as (λ _. Option (BlockRule 
 here : (least : BlockRule → Option ℕ) (r : BlockRule) (rs : List BlockRule) (k : ℕ) → least r ≡ Some k → first_among least (r ∷ rs) ≡ Some (r, k)
 here least r rs k e = ap (λ (o : Option ℕ). elim o as (λ _. Option (BlockRule × ℕ)) [ Some k ↦ Some (r, k) | None ↦ first_among least rs ]) e
 
+some_before : (least : BlockRule → Option ℕ) (rs more : List BlockRule) (p : BlockRule × ℕ) → first_among least rs ≡ Some p → first_among least (rs ++ more) ≡ Some p
+some_before least [] more p e = cc
+some_before least (r ∷ rs) more p e = go (least r) e (λ rest. some_before least rs more p rest)
+  where
+    go : (o : Option ℕ) → elim o as (λ _. Option (BlockRule × ℕ)) [ Some k ↦ Some (r, k) | None ↦ first_among least rs ] ≡ Some p →
+        (first_among least rs ≡ Some p → first_among least (rs ++ more) ≡ Some p) →
+        elim o as (λ _. Option (BlockRule × ℕ)) [ Some k ↦ Some (r, k) | None ↦ first_among least (rs ++ more) ] ≡ Some p
+    go (Some k) f ih = f
+    go None f ih = ih f
+
+none_before : (least : BlockRule → Option ℕ) (rs more : List BlockRule) → first_among least rs ≡ None → first_among least (rs ++ more) ≡ first_among least more
+none_before least [] more e = refl
+none_before least (r ∷ rs) more e = go (least r) e (λ rest. none_before least rs more rest)
+  where
+    go : (o : Option ℕ) → elim o as (λ _. Option (BlockRule × ℕ)) [ Some k ↦ Some (r, k) | None ↦ first_among least rs ] ≡ None →
+        (first_among least rs ≡ None → first_among least (rs ++ more) ≡ first_among least more) →
+        elim o as (λ _. Option (BlockRule × ℕ)) [ Some k ↦ Some (r, k) | None ↦ first_among least (rs ++ more) ] ≡ first_among least more
+    go (Some k) f ih = cc
+    go None f ih = ih f
+
 module _ (g : Description) (rows : Rows) (words : List ℕ) where
   abbrev least : BlockRule → Option ℕ
   least = least_breaking g rows words
 
   pub at_unit : (k : ℕ) → least rule.Opcode ≡ None → least rule.Unit ≡ Some k → first_broken g rows words ≡ Some (rule.Unit, k)
-  at_unit k a b = skip least rule.Opcode (rule.Unit ∷ (rule.Head ∷ rules_on_times)) a ∙ here least rule.Unit (rule.Head ∷ rules_on_times) k b
+  at_unit k a b = skip least rule.Opcode (rule.Unit ∷ (rule.Head ∷ rules_from_times)) a ∙ here least rule.Unit (rule.Head ∷ rules_from_times) k b
 
   pub at_head : (k : ℕ) → least rule.Opcode ≡ None → least rule.Unit ≡ None → least rule.Head ≡ Some k → first_broken g rows words ≡ Some (rule.Head, k)
   at_head k a b c =
-      skip least rule.Opcode (rule.Unit ∷ (rule.Head ∷ rules_on_times)) a ∙ skip least rule.Unit (rule.Head ∷ rules_on_times) b ∙ here least rule.Head rules_on_times k c
+      skip least rule.Opcode (rule.Unit ∷ (rule.Head ∷ rules_from_times)) a ∙ skip least rule.Unit (rule.Head ∷ rules_from_times) b ∙ here least rule.Head rules_from_times k c
 
-  pub at_times : least rule.Opcode ≡ None → least rule.Unit ≡ None → least rule.Head ≡ None → first_broken g rows words ≡ first_among least rules_on_times
-  at_times a b c =
-      skip least rule.Opcode (rule.Unit ∷ (rule.Head ∷ rules_on_times)) a ∙ skip least rule.Unit (rule.Head ∷ rules_on_times) b ∙ skip least rule.Head rules_on_times c
+  -- the rules before times are kept
+  pub record KeepsFirst : Type 0 where
+    pub opcode : least rule.Opcode ≡ None
+    pub unit : least rule.Unit ≡ None
+    pub head : least rule.Head ≡ None
+
+  at_times : KeepsFirst → first_broken g rows words ≡ first_among least rules_from_times
+  at_times k =
+      skip least rule.Opcode (rule.Unit ∷ (rule.Head ∷ rules_from_times)) k.opcode
+      ∙ skip least rule.Unit (rule.Head ∷ rules_from_times) k.unit
+      ∙ skip least rule.Head rules_from_times k.head
+
+  pub on_times : (r : BlockRule) (k : ℕ) → KeepsFirst → first_among least rules_on_times ≡ Some (r, k) → first_broken g rows words ≡ Some (r, k)
+  on_times r k kept told = at_times kept ∙ some_before least rules_on_times (rule.Cycle ∷ []) (r, k) told
+
+  -- then the stuck set alone decides
+  pub on_order : KeepsFirst → first_among least rules_on_times ≡ None → first_broken g rows words ≡ first_among least (rule.Cycle ∷ [])
+  on_order kept none = at_times kept ∙ none_before least rules_on_times (rule.Cycle ∷ []) none
 
 same_block : (a b : List ℕ) (c d : List TimedOp) (m n : ℕ) → a ≡ b → c ≡ d → m ≡ n →
     ◌≡◌ {A = Block} (record { words = a; ops = c; end = m }) (record { words = b; ops = d; end = n })

@@ -8,3 +8,13 @@ pub mod Kept
 pub mod PageBlocks
 pub mod Told
 pub mod GoodTimes
+pub mod Numbers
+pub mod Meetings
+pub mod GoodOrders
+pub mod BranchLast
+pub mod PlaceSets
+pub mod PlaceRanges
+pub mod Footprints
+pub mod Nodes
+pub mod Graphs
+pub mod Orders

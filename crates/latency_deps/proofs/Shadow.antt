@@ -19,7 +19,7 @@ module _ (ops : ℕ → Guarded) (n : ℕ) (one : find (breaks_second_branch ops
       ]
 
   -- no other operation is a branch
-  no_other : (b j : ℕ) → b < n → is_branch_at ops b ≡ true → j < n → (j ≡ b → ⊥) → is_branch_at ops j ≡ false
+  pub no_other : (b j : ℕ) → b < n → is_branch_at ops b ≡ true → j < n → (j ≡ b → ⊥) → is_branch_at ops j ≡ false
   no_other b j h u k ne = false_from_ne_true (is_branch_at ops j) (λ v. elim (cases_order j b) [
     | inl e ↦ ne e
     | inr (inl l) ↦ no_later j b l h v u

@@ -37,6 +37,7 @@ each least e rule.Drain = none_at_each least rules e 7 rule.Drain (lit< tt)
 each least e rule.BranchEnd = none_at_each least rules e 8 rule.BranchEnd (lit< tt)
 each least e rule.BranchShadow = none_at_each least rules e 9 rule.BranchShadow (lit< tt)
 each least e rule.Landing = none_at_each least rules e 10 rule.Landing (lit< tt)
+each least e rule.Cycle = none_at_each least rules e 11 rule.Cycle (lit< tt)
 
 -- the rules before the one that is told, and those after it
 record Split (least : BlockRule → Option ℕ) (rs : List BlockRule) (r : BlockRule) (k : ℕ) : Type 0 where

@@ -1,9 +1,13 @@
 pub mod Timing
 pub mod Issue
 pub mod Tests
+pub mod Before
 pub mod Rules
 pub mod Block
-pub mod Candidate
-pub mod Asked
+pub mod Delays
 pub mod Page
 pub mod Laws
+pub mod Candidate
+pub mod Asked
+pub mod Footprint
+pub mod Graph

@@ -4,12 +4,15 @@ use Rattle.std.specs.List.{range_with_len}
 use Rattle.machine_desc.specs.Description.{Description}
 use Rattle.block_table.specs.Rows.{Rows}
 use Rattle.list_encoding.specs.Times.{word_pace, block_end}
+use Rattle.serial_order.specs.declared.serial.OrderFault.{OrderFault}
+use Rattle.serial_order.specs.declared.serial.OrderFault.TheVariants as order
 use Rattle.latency_deps.specs.declared.rules.BlockRule.{BlockRule}
 use Rattle.latency_deps.specs.declared.rules.BlockRule.TheVariants as rule
 use Rattle.latency_deps.specs.declared.rules.BlockFault.{BlockFault}
 use Rattle.latency_deps.specs.declared.rules.BlockFault.TheVariants.{Broken, NoMemory}
 use Rattle.latency_deps.specs.Timing.{ops_of, own_timing}
 use Rattle.latency_deps.specs.Tests
+use Rattle.latency_deps.specs.Before.{breaks_cycle}
 
 -- the cycle in which the block of the words ends
 abbrev pub end_of : List ℕ → ℕ
@@ -28,12 +31,13 @@ breaks g rows words rule.Drain k = Tests.breaks_drain (ops_of words) (own_timing
 breaks g rows words rule.BranchEnd k = Tests.breaks_branch_end (ops_of words) (own_timing g words) (end_of words) k
 breaks g rows words rule.BranchShadow k = Tests.breaks_branch_shadow (ops_of words) (own_timing g words) (length words) k
 breaks g rows words rule.Landing k = Tests.breaks_landing (ops_of words) (own_timing g words) k
+breaks g rows words rule.Cycle k = breaks_cycle (ops_of words) (own_timing g words) (length words) k
 
 -- the rules, in the order in which they are looked at
 abbrev pub rules : List BlockRule
 rules =
     rule.Opcode ∷ (rule.Unit ∷ (rule.Head ∷ (rule.Width ∷ (rule.Units ∷ (rule.SecondBranch ∷ (rule.Target ∷
-    (rule.Drain ∷ (rule.BranchEnd ∷ (rule.BranchShadow ∷ (rule.Landing ∷ []))))))))))
+    (rule.Drain ∷ (rule.BranchEnd ∷ (rule.BranchShadow ∷ (rule.Landing ∷ (rule.Cycle ∷ [])))))))))))
 
 -- the least operation of the words that breaks the rule
 abbrev pub least_breaking : Description → Rows → List ℕ → BlockRule → Option ℕ
@@ -47,6 +51,11 @@ first_among least (r ∷ rs) = elim (least r) [ Some k ↦ Some (r, k) | None �
 -- the first broken rule, with its least operation
 abbrev pub first_broken : Description → Rows → List ℕ → Option (BlockRule × ℕ)
 first_broken g rows words = first_among (least_breaking g rows words) rules
+
+-- the fault where operations have no serial order
+abbrev pub order_fault : OrderFault → BlockFault
+order_fault (order.Cycle k) = Broken rule.Cycle k
+order_fault order.NoMemory = NoMemory
 
 -- a fault is the first broken rule with its least operation, or want of memory
 abbrev pub IsBlockFault : Description → Rows → List ℕ → BlockFault → Type 0

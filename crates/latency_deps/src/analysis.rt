@@ -6,10 +6,12 @@ ghost use Rattle.latency_deps.specs.Block.{block_in, IsGood};
 
 use super::block::GoodBlock;
 use super::candidate::Candidate;
+use super::graph::delays_of;
 use super::readings::Readings;
 use super::rules::{BlockFault, BlockRule};
 use block_table::Table;
 use machine_desc::Mdes;
+use serial_order::order;
 use std::alloc::Global;
 
 /// The block of 1 to 512 words, by the description that they were made for and the table that has the entries; or the
@@ -40,5 +42,7 @@ pub fn analyse(
         return Err(BlockFault::Broken(rule, k));
     }
     let Candidate { ops, end, .. } = candidate;
+    let delays = delays_of(alloc, &ops, description)?;
+    order(alloc, &delays)?;
     Ok(GoodBlock { ops, end })
 }

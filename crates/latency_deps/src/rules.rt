@@ -1,6 +1,8 @@
 // The rules on a block's words by name.
 ghost use Rattle.std.specs.Prelude.{◌≡◌};
+ghost use Rattle.latency_deps.specs.Rules.{order_fault};
 
+use serial_order::OrderFault;
 use std::alloc::{AllocError, AllocFailed};
 use tnk_base::NoMemory;
 
@@ -31,6 +33,8 @@ pub enum BlockRule {
     /// Two operations that write one register, predicate or target, not as one wired family, don't land in one cycle;
     /// and a compare's destinations that are one predicate are of one family.
     Landing,
+    /// The operations have a serial order: none is among some of which each has one of them before it.
+    Cycle,
 }
 
 /// Why some words are no block.
@@ -68,5 +72,16 @@ impl From<NoMemory> for BlockFault {
 
     fn from(_: NoMemory) -> Self {
         BlockFault::NoMemory
+    }
+}
+
+impl From<OrderFault> for BlockFault {
+    ghost from_gives = { λ below fault. fault ≡ order_fault below };
+
+    fn from(fault: OrderFault) -> Self {
+        match fault {
+            OrderFault::Cycle(k) => BlockFault::Broken(BlockRule::Cycle, k),
+            OrderFault::NoMemory => BlockFault::NoMemory,
+        }
     }
 }

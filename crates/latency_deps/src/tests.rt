@@ -11,7 +11,7 @@ use std::process::Abort;
 use std::test::Fail;
 
 /// A width, five unit counts and nine latencies.
-type Numbers = (u8, [u8; 5], [u8; 9]);
+pub(crate) type Numbers = (u8, [u8; 5], [u8; 9]);
 
 /// Words with the rule that they break first, and its least operation.
 type Refused = (Numbers, &'static [u64], BlockRule, u16);
@@ -19,14 +19,14 @@ type Refused = (Numbers, &'static [u64], BlockRule, u16);
 /// Words that keep the rules, with the issue cycle and the latency of each operation, and the end.
 type Accepted = (Numbers, &'static [u64], &'static [(u32, u8)], u32);
 
-const T1: Numbers = (2, [1, 1, 1, 1, 1], [1, 3, 8, 2, 1, 1, 1, 1, 1]);
+pub(crate) const T1: Numbers = (2, [1, 1, 1, 1, 1], [1, 3, 8, 2, 1, 1, 1, 1, 1]);
 
-const T2: Numbers = (4, [2, 1, 1, 1, 1], [1, 2, 12, 3, 1, 1, 1, 1, 2]);
+pub(crate) const T2: Numbers = (4, [2, 1, 1, 1, 1], [1, 2, 12, 3, 1, 1, 1, 1, 2]);
 
-const T3: Numbers = (8, [4, 2, 2, 2, 1], [2, 4, 16, 5, 2, 2, 2, 1, 3]);
+pub(crate) const T3: Numbers = (8, [4, 2, 2, 2, 1], [2, 4, 16, 5, 2, 2, 2, 1, 3]);
 
 /// All latencies are 1.
-const ONES: Numbers = (4, [1, 1, 1, 3, 1], [1, 1, 1, 1, 1, 1, 1, 1, 1]);
+pub(crate) const ONES: Numbers = (4, [1, 1, 1, 3, 1], [1, 1, 1, 1, 1, 1, 1, 1, 1]);
 
 /// No unit of kind L.
 const BARE: Numbers = (2, [1, 1, 0, 1, 1], [1, 3, 8, 2, 1, 1, 1, 1, 1]);
@@ -321,8 +321,165 @@ const BROKEN: [Refused; 36] = [
     ),
 ];
 
+/// Words without a serial order. The rule on that is told last.
+const UNORDERED: [Refused; 15] = [
+    // Two registers swapped in one MultiOp.
+    (
+        T2,
+        &[
+            0x8040_8022_0000_0000,
+            0x0000_8041_0000_0000,
+            0x202A_0000_0000_0000,
+        ],
+        BlockRule::Cycle,
+        0,
+    ),
+    // A load that issues before an earlier listed store has landed.
+    (
+        T3,
+        &[
+            0x901A_8020_0000_0000,
+            0x9058_0040_0000_0000,
+            0xA0AA_0000_0000_0000,
+        ],
+        BlockRule::Cycle,
+        0,
+    ),
+    // A load that issues with an earlier listed store.
+    (
+        T3,
+        &[0x911A_8020_0000_0000, 0x1018_0040_0000_0000],
+        BlockRule::Cycle,
+        0,
+    ),
+    // An `outb` of what was there before the division that is listed first: both can trap.
+    (
+        T1,
+        &[0x8814_8022_0000_0003, 0x919C_8001_0000_0000],
+        BlockRule::Cycle,
+        0,
+    ),
+    // A product of r1 into r1, and a sum into r1 that lands before it.
+    (
+        T1,
+        &[0x8814_0021_0000_0002, 0x8048_8020_0000_0001],
+        BlockRule::Cycle,
+        0,
+    ),
+    // Two compares in one MultiOp, each guarded by what the other one sets.
+    (
+        ONES,
+        &[0x9824_0821_0000_0000, 0x1824_0441_0001_0000],
+        BlockRule::Cycle,
+        0,
+    ),
+    // A register and a target swapped in one MultiOp.
+    (
+        T3,
+        &[0x8051_8021_0000_0000, 0x0011_0021_0000_0000],
+        BlockRule::Cycle,
+        0,
+    ),
+    // Three registers rotated in one MultiOp.
+    (
+        T3,
+        &[
+            0x8040_8022_0000_0000,
+            0x0000_8043_0000_0000,
+            0x0000_8061_0000_0000,
+        ],
+        BlockRule::Cycle,
+        0,
+    ),
+    // Two `inb`: the second before a compare that sets its guard, this before the first, whose register it reads.
+    (
+        T3,
+        &[
+            0x901C_0020_0000_0000,
+            0x905C_0440_0000_0000,
+            0x1824_0021_0000_0000,
+        ],
+        BlockRule::Cycle,
+        0,
+    ),
+    // A swap of 2 and 4, with 0 before it, and 1 and 3 beside it.
+    (
+        T2,
+        &[
+            0x8008_8060_0000_0001,
+            0x0008_8080_0000_0002,
+            0x8080_8022_0000_0003,
+            0x1018_00A0_0000_0000,
+            0x0000_8041_0000_0000,
+        ],
+        BlockRule::Cycle,
+        2,
+    ),
+    // A swap of 1 and 3, with 4 behind it, and 0 and 2 beside it.
+    (
+        T2,
+        &[
+            0x901C_8006_0000_0000,
+            0x8000_8022_0000_0000,
+            0x101A_80A0_0000_0000,
+            0x0000_8041_0000_0000,
+            0x8000_8082_0000_0001,
+        ],
+        BlockRule::Cycle,
+        1,
+    ),
+    // A swap of 1 and 2, of which 1 reads what was there before the load: so 0 is behind the swap.
+    (
+        T2,
+        &[
+            0x9018_0020_0000_0000,
+            0x8040_8043_0000_0001,
+            0x0000_8062_0000_0000,
+        ],
+        BlockRule::Cycle,
+        0,
+    ),
+    // A swap of 2 and 3, one of 5 and 6 behind it, and 4 between them; 1 reads what was there before 0.
+    (
+        T3,
+        &[
+            0x8008_80E0_0000_0000,
+            0x8814_0107_0000_0007,
+            0x8040_8022_0000_0007,
+            0x0000_8041_0000_0000,
+            0x8040_8061_0000_0002,
+            0x8040_8085_0000_0003,
+            0x0000_80A4_0000_0000,
+        ],
+        BlockRule::Cycle,
+        2,
+    ),
+    // A swap, and a write that lands with one of its two.
+    (
+        T3,
+        &[
+            0x8040_8022_0000_0000,
+            0x0000_8041_0000_0000,
+            0x0008_8020_0000_0001,
+        ],
+        BlockRule::Landing,
+        2,
+    ),
+    // A swap, and a compare at odds with itself.
+    (
+        T2,
+        &[
+            0x8000_8022_0000_0000,
+            0x0000_8041_0000_0000,
+            0x1824_0081_0002_2280,
+        ],
+        BlockRule::Landing,
+        2,
+    ),
+];
+
 /// What is answered of the words under a description with these numbers, where the entries are 0 and 7.
-fn answer(
+pub(crate) fn answer(
     alloc: Global,
     numbers: Numbers,
     words: &[u64],
@@ -405,6 +562,14 @@ fn is_refused(rt: &impl Abort, alloc: Global, case: &Refused) -> Result<(), Fail
 #[test]
 fn broken_rules(rt: HostRuntime) -> Result<(), Fail> {
     for case in &BROKEN {
+        is_refused(&rt, rt.alloc(), case)?;
+    }
+    Ok(())
+}
+
+#[test]
+fn no_serial_order(rt: HostRuntime) -> Result<(), Fail> {
+    for case in &UNORDERED {
         is_refused(&rt, rt.alloc(), case)?;
     }
     Ok(())

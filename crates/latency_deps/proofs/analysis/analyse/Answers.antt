@@ -1,13 +1,22 @@
-use Rattle.std.proofs.Common.{◌≡◌, ◌∙◌, ℕ, List, Option, sym, ap, subst}
+use Rattle.std.proofs.Common.{◌≡◌, ◌∙◌, ℕ, List, [], ◌∷◌, length, Option, None, sym, ap, subst, arith}
+use Rattle.std.proofs.lemmas.Result.{err_from_is_err_and}
 use Rattle.machine_desc.specs.declared.Mdes.{Mdes}
+use Rattle.machine_desc.specs.Description.{IsDescription}
 use Rattle.machine_desc.specs.Value.{description_of}
+use Rattle.machine_desc.specs.Ranges.{in_description}
 use Rattle.block_table.specs.Rows.{Rows}
+use Rattle.serial_order.specs.Table.{Table, before}
+use Rattle.serial_order.specs.SerialOrder.{first_stuck}
+use Rattle.latency_deps.specs.declared.block.WordOp.{WordOp}
+use Rattle.latency_deps.specs.declared.rules.BlockRule.TheVariants as rule
 use Rattle.latency_deps.specs.Timing.{ops_of}
 use Rattle.latency_deps.specs.Tests.{breaks_unit, breaks_head}
 use Rattle.latency_deps.specs.Rules.{least_breaking, first_among, first_broken}
 use Rattle.latency_deps.specs.Candidate.{AreTimed, least_of}
 use Rattle.latency_deps.specs.Asked.{breaks_in, rules_on_times}
-use Rattle.latency_deps.proofs.Kept.{at_unit, at_head, at_times, built, made_good}
+use Rattle.latency_deps.specs.Graph.{LandInTime, AreDelays}
+use Rattle.latency_deps.proofs.Kept.{KeepsFirst, at_unit, at_head, on_times, on_order, built, made_good}
+use Rattle.latency_deps.proofs.Orders.{few_ops, ops_in_time, stuck_is, cycle_fault, no_cycle}
 use Rattle.latency_deps.proofs.analysis.analyse.Goals as goal
 use Rattle.latency_deps.proofs.analysis.analyse.Goals.{After-first_broken}
 
@@ -33,21 +42,32 @@ returns-in-Some-first_without_head-clause-answer c =
     (units _ _ _ _ read.same c.first_wrong_unit.ensures c.in_default.is)
     (heads _ _ _ _ read.same c.first_without_head.ensures c.in-Some-first_without_head.is)
 
--- what the candidate answers is what the rules say of the words
-broken : (c : After-first_broken) → c.first_broken.result ≡ first_broken (description_of c.args.description.now) c.args.table.now c.args.words.now
+-- the numbers of a description are in their ranges
+described : (m : Mdes) → IsDescription (description_of m)
+described m = in_description m.width m.units m.latency m.in_range
+
+-- the rules before times are kept
+first : (c : After-first_broken) → KeepsFirst (description_of c.args.description.now) c.args.table.now c.args.words.now
+first c =
+    let read = c.in_ok-readings.ensures in
+    record {
+      opcode = read.answer;
+      unit = units _ _ _ _ read.same c.first_wrong_unit.ensures c.in_default.is;
+      head = heads _ _ _ _ read.same c.first_without_head.ensures c.in_default-first_without_head.is;
+    }
+
+-- what the candidate answers is what the rules on times say of the words
+broken : (c : After-first_broken) →
+    c.first_broken.result ≡ first_among (least_breaking (description_of c.args.description.now) c.args.table.now c.args.words.now) rules_on_times
 unfolding breaks_in
 broken c =
-    let read = c.in_ok-readings.ensures in
     let made = c.in_ok-candidate.candidate in
     let same = c.in_ok-candidate.ensures in
     let g = description_of c.args.description.now in
     c.first_broken.ensures
     ∙ ap (λ (m : Mdes). first_among (least_breaking (description_of m) made.table.now made.words.now) rules_on_times) same.description
     ∙ ap (λ (rows : Rows). first_among (least_breaking g rows made.words.now) rules_on_times) same.table
-    ∙ ap (λ (words : List ℕ). first_among (least_breaking g c.args.table.now words) rules_on_times) (same.words ∙ read.same)
-    ∙ sym (at_times g c.args.table.now c.args.words.now read.answer
-    (units _ _ _ _ read.same c.first_wrong_unit.ensures c.in_default.is)
-    (heads _ _ _ _ read.same c.first_without_head.ensures c.in_default-first_without_head.is))
+    ∙ ap (λ (words : List ℕ). first_among (least_breaking g c.args.table.now words) rules_on_times) (same.words ∙ c.in_ok-readings.ensures.same)
 
 -- the candidate's operations are those of the words
 timed : (c : After-first_broken) →
@@ -60,19 +80,63 @@ timed c =
 
 pub returns-in-Some-first_broken-clause-answer : goal.returns-in-Some-first_broken-clause-answer
 returns-in-Some-first_broken-clause-answer c =
-    sym (broken (goal.at.returns-in-Some-first_broken-clause-answer c).After-first_broken) ∙ c.in-Some-first_broken.is
+    let at = (goal.at.returns-in-Some-first_broken-clause-answer c).After-first_broken in
+    on_times (description_of c.args.description.now) c.args.table.now c.args.words.now _ _ (first at) (sym (broken at) ∙ c.in-Some-first_broken.is)
+
+pub delays_of-requires-clause-few : goal.delays_of-requires-clause-few
+delays_of-requires-clause-few c =
+    let at = (goal.at.delays_of-requires-clause-few c).After-first_broken in
+    let few = few_ops _ _ _ _ (timed at) in
+    let same = ap length c.deref.ensures.value in
+    omega arith
+
+pub delays_of-requires-clause-time : goal.delays_of-requires-clause-time
+delays_of-requires-clause-time c =
+    let at = (goal.at.delays_of-requires-clause-time c).After-first_broken in
+    subst LandInTime (sym c.deref.ensures.value) (ops_in_time _ _ _ _ (timed at) (described c.args.description.now))
+
+-- the first that is stuck by the table of delays is the least operation that breaks the rule on order
+stuck : (c : After-first_broken) (held : List WordOp) (d : Table) → held ≡ c.in_ok-candidate.candidate.ops.items →
+    AreDelays (description_of c.args.description.now).latency held d →
+    first_stuck (before d) d.count ≡ least_breaking (description_of c.args.description.now) c.args.table.now c.args.words.now rule.Cycle
+stuck c held d same are =
+    let g = description_of c.args.description.now in
+    stuck_is g c.args.words.now _ _ (timed c) d (subst (λ (ops : List WordOp). AreDelays g.latency ops d) same are) c.args.table.now
+
+-- where the rules before are kept, that rule alone decides
+order_decides : (c : After-first_broken) → c.first_broken.result ≡ None →
+    first_broken (description_of c.args.description.now) c.args.table.now c.args.words.now
+    ≡ first_among (least_breaking (description_of c.args.description.now) c.args.table.now c.args.words.now) (rule.Cycle ∷ [])
+order_decides c none = on_order (description_of c.args.description.now) c.args.table.now c.args.words.now (first c) (sym (broken c) ∙ none)
+
+pub returns-in_err-order-clause-answer : goal.returns-in_err-order-clause-answer
+returns-in_err-order-clause-answer c =
+    let at = (goal.at.returns-in_err-order-clause-answer c).After-first_broken in
+    let p = err_from_is_err_and c.from_residual-in_err-order.result c.from_residual-in_err-order.ensures.1 in
+    let d = c.in_ok-delays.delays in
+    rw (p.1, p.2)
+    (cycle_fault (description_of c.args.description.now) c.args.table.now c.args.words.now (before d) d.count c.in_err-order.field-0.0 c.in_err-order.ensures.stuck
+    (stuck at c.deref.result.now d c.deref.ensures.value c.in_ok-delays.ensures) (order_decides at c.in_default-first_broken.is))
+
+-- an order shows that no rule is broken
+kept : (c : After-first_broken) (held : List WordOp) (d : Table) → c.first_broken.result ≡ None → held ≡ c.in_ok-candidate.candidate.ops.items →
+    AreDelays (description_of c.args.description.now).latency held d → first_stuck (before d) d.count ≡ None →
+    first_broken (description_of c.args.description.now) c.args.table.now c.args.words.now ≡ None
+kept c held d none same are ordered =
+    no_cycle (description_of c.args.description.now) c.args.table.now c.args.words.now (sym (stuck c held d same are) ∙ ordered) (order_decides c none)
 
 pub invariant_of-result : goal.invariant_of-result
 invariant_of-result c =
     let at = (goal.at.invariant_of-result c).After-first_broken in
     let made = c.in_ok-candidate.candidate in
-    made_good c.args.description.now c.args.table.now c.args.words.now made.ops.items made.end (timed at) (sym (broken at) ∙ c.in_default-first_broken.is)
+    made_good c.args.description.now c.args.table.now c.args.words.now made.ops.items made.end (timed at)
+    (kept at c.deref.result.now c.in_ok-delays.delays c.in_default-first_broken.is c.deref.ensures.value c.in_ok-delays.ensures c.in_ok-order.ensures.stuck)
 
 pub returns-clause-answer : goal.returns-clause-answer
 returns-clause-answer c =
     let at = (goal.at.returns-clause-answer c).After-first_broken in
     let made = c.in_ok-candidate.candidate in (
-      sym (broken at) ∙ c.in_default-first_broken.is,
+      kept at c.deref.result.now c.in_ok-delays.delays c.in_default-first_broken.is c.deref.ensures.value c.in_ok-delays.ensures c.in_ok-order.ensures.stuck,
       built (description_of c.args.description.now) c.args.words.now made.ops.items made.end (timed at),
     )
 
@@ -80,4 +144,5 @@ pub returns-clause-good : goal.returns-clause-good
 returns-clause-good c =
     let at = (goal.at.returns-clause-good c).After-first_broken in
     let made = c.in_ok-candidate.candidate in
-    made_good c.args.description.now c.args.table.now c.args.words.now made.ops.items made.end (timed at) (sym (broken at) ∙ c.in_default-first_broken.is)
+    made_good c.args.description.now c.args.table.now c.args.words.now made.ops.items made.end (timed at)
+    (kept at c.deref.result.now c.in_ok-delays.delays c.in_default-first_broken.is c.deref.ensures.value c.in_ok-delays.ensures c.in_ok-order.ensures.stuck)

@@ -1,0 +1,179 @@
+-- The nodes of a block's operations, and the table of their delays.
+use Rattle.std.proofs.Common.{◌≡◌, ℕ, ◌+◌, ◌<◌, ◌≤◌, Bool, true, false, cond, ◌⊎◌, inl, inr, List, length, sym, ap, subst, ◌∙◌, Option, Some, None, arith}
+use Rattle.std.specs.Prelude.{map, is_some, IfSome, ℤ, pos, negsuc, ◌≤ℤ◌}
+use Rattle.std.proofs.lemmas.Bool.{cases_lt}
+use Rattle.std.proofs.lemmas.List.{length-map, get_or-map}
+use Rattle.machine_desc.specs.Description.{Description, IsDescription}
+use Rattle.list_encoding.specs.Reading.{halt}
+use Rattle.operation.specs.declared.LatKind.{LatKind}
+use Rattle.operation.specs.Places.{is_branch, latency_kind}
+use Rattle.timed_meaning.specs.declared.TimedOp.{TimedOp}
+use Rattle.serial_order.specs.Table.{Table, delay_of, before}
+use Rattle.serial_order.specs.SerialOrder.{first_stuck}
+use Rattle.serial_order.proofs.Stuck.{same_before_same_stuck}
+use Rattle.latency_deps.specs.declared.block.WordOp.{WordOp}
+use Rattle.latency_deps.specs.declared.graph.Node.{Node}
+use Rattle.latency_deps.specs.Before.{comes_before, delay_between, applying, greatest}
+use Rattle.latency_deps.specs.Block.{Block, IsGood, timed_at, block_with}
+use Rattle.latency_deps.specs.Delays.{before_in, delay_in, IsDelayTable}
+use Rattle.latency_deps.specs.Graph.{node, node_at, op_at, delay_of_nodes, AreShort, AreDelays}
+use Rattle.latency_deps.proofs.Nodes.{delay_law, delay_there, greatest_short, IsShort}
+use Rattle.latency_deps.proofs.GoodOrders.{none_stuck}
+use Rattle.latency_deps.proofs.BranchLast.{branch_last}
+
+-- the first m delays of the row i are there, and nothing else has changed
+pub record FilledTo (nodes : List Node) (i m : ℕ) (old d : Table) : Type 0 where
+  pub count : d.count ≡ old.count
+  pub here : (j : ℕ) → j < m → delay_of d i j ≡ delay_of_nodes i j (node_at nodes i) (node_at nodes j)
+  pub left : (j : ℕ) → m ≤ j → delay_of d i j ≡ None
+  pub elsewhere : (k j : ℕ) → (k ≡ i → ⊥) → delay_of d k j ≡ delay_of old k j
+
+pub fill_none :
+    (nodes : List Node) (i m : ℕ) (old d : Table) → FilledTo nodes i m old d → delay_of_nodes i m (node_at nodes i) (node_at nodes m) ≡ None →
+    FilledTo nodes i (m + 1) old d
+fill_none nodes i m old d f none = record {
+  count = f.count;
+  here = λ j below. go j (cases_lt j m) below;
+  left = λ j above. f.left j (omega arith);
+  elsewhere = f.elsewhere;
+}
+  where
+    go : (j : ℕ) → (j < m) ⊎ (m ≤ j) → j < m + 1 → delay_of d i j ≡ delay_of_nodes i j (node_at nodes i) (node_at nodes j)
+    go j (inl low) below = f.here j low
+    go j (inr high) below =
+        let same : m ≡ j = omega arith in
+        subst (λ (k : ℕ). delay_of d i k ≡ delay_of_nodes i k (node_at nodes i) (node_at nodes k)) same (f.left m (omega arith) ∙ sym none)
+
+pub fill_some :
+    (nodes : List Node) (i m : ℕ) (old d new : Table) (delay : ℤ) → FilledTo nodes i m old d →
+    delay_of_nodes i m (node_at nodes i) (node_at nodes m) ≡ Some delay → new.count ≡ d.count → delay_of new i m ≡ Some delay →
+    ((a b : ℕ) → (a ≡ i → b ≡ m → ⊥) → delay_of new a b ≡ delay_of d a b) → FilledTo nodes i (m + 1) old new
+fill_some nodes i m old d new delay f some count set others = record {
+  count = count ∙ f.count;
+  here = λ j below. go j (cases_lt j m) below;
+  left = λ j above. others i j (λ e g. absurd (omega arith)) ∙ f.left j (omega arith);
+  elsewhere = λ k j ne. others k j (λ e g. ne e) ∙ f.elsewhere k j ne;
+}
+  where
+    go : (j : ℕ) → (j < m) ⊎ (m ≤ j) → j < m + 1 → delay_of new i j ≡ delay_of_nodes i j (node_at nodes i) (node_at nodes j)
+    go j (inl low) below = others i j (λ e g. absurd (omega arith)) ∙ f.here j low
+    go j (inr high) below =
+        let same : m ≡ j = omega arith in
+        subst (λ (k : ℕ). delay_of new i k ≡ delay_of_nodes i k (node_at nodes i) (node_at nodes k)) same (set ∙ sym some)
+
+-- the rows below m are there, and no other
+pub record RowsTo (nodes : List Node) (n m : ℕ) (d : Table) : Type 0 where
+  pub count : d.count ≡ n
+  pub here : (i j : ℕ) → i < m → j < n → delay_of d i j ≡ delay_of_nodes i j (node_at nodes i) (node_at nodes j)
+  pub left : (i j : ℕ) → m ≤ i → delay_of d i j ≡ None
+
+pub more_rows :
+    (nodes : List Node) (n m : ℕ) (d new : Table) → RowsTo nodes n m d → new.count ≡ d.count →
+    ((j : ℕ) → j < d.count → delay_of new m j ≡ delay_of_nodes m j (node_at nodes m) (node_at nodes j)) →
+    ((k j : ℕ) → (k ≡ m → ⊥) → delay_of new k j ≡ delay_of d k j) → RowsTo nodes n (m + 1) new
+more_rows nodes n m d new r count row others = record {
+  count = count ∙ r.count;
+  here = λ i j below inside. go i j (cases_lt i m) below inside;
+  left = λ i j above. others i j (λ e. absurd (omega arith)) ∙ r.left i j (omega arith);
+}
+  where
+    go : (i j : ℕ) → (i < m) ⊎ (m ≤ i) → i < m + 1 → j < n → delay_of new i j ≡ delay_of_nodes i j (node_at nodes i) (node_at nodes j)
+    go i j (inl low) below inside = others i j (λ e. absurd (omega arith)) ∙ r.here i j low inside
+    go i j (inr high) below inside =
+        let same : m ≡ i = omega arith in
+        let size = r.count in
+        subst (λ (k : ℕ). delay_of new k j ≡ delay_of_nodes k j (node_at nodes k) (node_at nodes j)) same (row j (omega arith))
+
+-- the nodes are those of the operations
+pub node_is :
+    (latency : LatKind → ℕ) (ops : List WordOp) (nodes : List Node) (i : ℕ) → nodes ≡ map (λ (o : WordOp). node latency o.timed) ops → i < length ops →
+    node_at nodes i ≡ node latency (op_at ops i)
+node_is latency ops nodes i e inside =
+    ap (λ (l : List Node). node_at l i) e
+    ∙ get_or-map (λ (o : WordOp). node latency o.timed) ops i (record { word = 0; timed = record { guarded = halt; at = 0; latency = 1 } }) _ inside
+
+-- so their table is that of the operations
+pub all_rows :
+    (latency : LatKind → ℕ) (ops : List WordOp) (nodes : List Node) (d : Table) → nodes ≡ map (λ (o : WordOp). node latency o.timed) ops →
+    RowsTo nodes (length ops) (length ops) d → AreDelays latency ops d
+all_rows latency ops nodes d e r = record {
+  count = r.count;
+  each = λ i j inside below.
+      r.here i j inside below
+      ∙ ap (λ (a : Node). delay_of_nodes i j a (node_at nodes j)) (node_is latency ops nodes i e inside)
+      ∙ ap (λ (b : Node). delay_of_nodes i j (node latency (op_at ops i)) b) (node_is latency ops nodes j e below)
+      ∙ delay_law latency i j (op_at ops i) (op_at ops j);
+}
+
+pub short_nodes :
+    (g : Description) (ops : List WordOp) (nodes : List Node) → IsDescription g → nodes ≡ map (λ (o : WordOp). node g.latency o.timed) ops → AreShort nodes
+short_nodes g ops nodes ok e i inside =
+    let inside_ops : i < length ops = omega (arith, ap length e, length-map ops (λ (o : WordOp). node g.latency o.timed)) in
+    let kind = latency_kind (op_at ops i).guarded.op in
+    let high = (ok.latency kind).1 in
+    let same = ap (λ (a : Node). a.latency) (node_is g.latency ops nodes i e inside_ops) in
+    omega arith
+
+-- the operation i of a block of words with their operations
+pub op_timed : (ops : List WordOp) (end i : ℕ) → i < length ops → op_at ops i ≡ timed_at (block_with ops end) i
+op_timed ops end i inside =
+    sym (get_or-map (λ (o : WordOp). o.timed) ops i (record { word = 0; timed = record { guarded = halt; at = 0; latency = 1 } }) (record { guarded = halt; at = 0; latency = 0 }) inside)
+
+-- the table of a good block's operations is one of its delays
+module _ (g : Description) (ok : IsDescription g) (ops : List WordOp) (end : ℕ) (good : IsGood (block_with ops end)) (d : Table) (are : AreDelays g.latency ops d) where
+  abbrev b : Block
+  b = block_with ops end
+
+  size : length b.words ≡ length ops
+  size = length-map ops (λ (o : WordOp). o.word)
+
+  each : (i j : ℕ) → i < length b.words → j < length b.words → delay_of d i j ≡ delay_in g b i j
+  each i j inside below =
+      let s = size in
+      are.each i j (omega arith) (omega arith)
+      ∙ ap (λ (o : TimedOp). delay_between g.latency i j o (op_at ops j)) (op_timed ops end i (omega arith))
+      ∙ ap (λ (o : TimedOp). delay_between g.latency i j (timed_at b i) o) (op_timed ops end j (omega arith))
+
+  there : (i j : ℕ) → i < length b.words → j < length b.words → before d i j ≡ before_in b i j
+  there i j inside below =
+      ap (λ (o : Option ℤ). is_some o) (each i j inside below) ∙ delay_there g.latency i j (timed_at b i) (timed_at b j)
+
+  count : d.count ≡ length b.words
+  count = are.count ∙ sym size
+
+  ordered : first_stuck (before d) d.count ≡ None
+  ordered = ap (first_stuck (before d)) count ∙ same_before_same_stuck (before d) (before_in b) (length b.words) there ∙ none_stuck b good
+
+  abbrev latency_at : ℕ → ℕ
+  latency_at i = g.latency (latency_kind (timed_at b i).guarded.op)
+
+  abbrev most : ℕ → ℕ → ℤ
+  most i j = greatest (applying (timed_at b i).guarded (timed_at b j).guarded (latency_at i) (latency_at j))
+
+  short : (i j : ℕ) → IsShort (most i j)
+  short i j =
+      let p = ok.latency (latency_kind (timed_at b i).guarded.op) in
+      let q = ok.latency (latency_kind (timed_at b j).guarded.op) in
+      greatest_short (timed_at b i).guarded (timed_at b j).guarded (latency_at i) (latency_at j) p.0 p.1 q.0 q.1
+
+  within : (i j : ℕ) → i < length b.words → j < length b.words → IfSome (delay_of d i j) (λ delay. (negsuc 30 ≤ℤ delay) × (delay ≤ℤ pos 32))
+  within i j inside below = go (comes_before i j (timed_at b i) (timed_at b j)) (delay_of d i j) (each i j inside below)
+    where
+      go : (t : Bool) (o : Option ℤ) → o ≡ cond t (Some (most i j)) None → IfSome o (λ delay. (negsuc 30 ≤ℤ delay) × (delay ≤ℤ pos 32))
+      go true o e = subst (λ (p : Option ℤ). IfSome p (λ delay. (negsuc 30 ≤ℤ delay) × (delay ≤ℤ pos 32))) (sym e) ((short i j).low, (short i j).high)
+      go false o e = subst (λ (p : Option ℤ). IfSome p (λ delay. (negsuc 30 ≤ℤ delay) × (delay ≤ℤ pos 32))) (sym e) tt
+
+  none_before : (i j : ℕ) → i < length b.words → j < length b.words → is_branch (timed_at b i).guarded.op ≡ true → delay_of d i j ≡ None
+  none_before i j inside below branch =
+      each i j inside below
+      ∙ ap (λ (t : Bool). cond t (Some (most i j)) None)
+      (branch_last b good i j inside below branch)
+
+  pub delay_table : IsDelayTable g b d
+  delay_table = record {
+    count = count;
+    each = each;
+    ordered = ordered;
+    within = within;
+    branch = none_before;
+  }

@@ -1,0 +1,6 @@
+use Rattle.std.proofs.Common.{length}
+use Rattle.latency_deps.proofs.Graphs.{RowsTo}
+use Rattle.latency_deps.proofs.graph.delays_of.Given as goal
+
+abbrev pub invariant-loop-i : goal.invariant-loop-i
+invariant-loop-i g l = RowsTo l.nodes.items (length l.ops) l.i l.d

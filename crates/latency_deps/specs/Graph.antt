@@ -1,0 +1,76 @@
+-- The operations of a block two by two, by what is computed once for each.
+use Rattle.std.specs.Prelude.{ℕ, ◌≡◌, ◌≤◌, ◌<◌, ◌^◌, Bool, not, ◌&&◌, ◌||◌, if◌then◌else◌, nat_eq, nat_lt, nat_le, List, length, slice_index_or, Option, Some, None, ℤ, pos, negsuc, ◌+ℤ◌, ◌-ℤ◌}
+use Rattle.std.specs.Int.{int_max}
+use Rattle.operation.specs.declared.LatKind.{LatKind}
+use Rattle.operation.specs.Places.{latency_kind}
+use Rattle.timed_meaning.specs.declared.TimedOp.{TimedOp}
+use Rattle.list_encoding.specs.Reading.{halt}
+use Rattle.trap_order.specs.Order.{keep_issue_order}
+use Rattle.serial_order.specs.Table.{Table, delay_of}
+use Rattle.latency_deps.specs.declared.block.WordOp.{WordOp}
+use Rattle.latency_deps.specs.declared.graph.Node.{Node}
+use Rattle.latency_deps.specs.declared.graph.Meeting.{Meeting}
+use Rattle.latency_deps.specs.Before.{lands_at, delay_between}
+use Rattle.latency_deps.specs.Footprint.{footprint, is_fed, write_both}
+
+-- an operation as a node
+abbrev pub node : (LatKind → ℕ) → TimedOp → Node
+node latency o = record {
+  op = o.guarded.op;
+  footprint = footprint o.guarded;
+  at = o.at;
+  lands = lands_at o;
+  latency = latency (latency_kind o.guarded.op);
+}
+
+-- what stands between two operations
+abbrev pub meeting : Node → Node → Meeting
+meeting a b = record {
+  feeds = is_fed a.footprint b.footprint;
+  fed = is_fed b.footprint a.footprint;
+  both_write = write_both a.footprint b.footprint;
+  in_list_order = keep_issue_order a.op b.op;
+}
+
+-- by that and their times the first comes before the second
+abbrev pub before_by_times : Meeting → Node → Node → Bool
+before_by_times m a b =
+    (m.feeds && nat_le a.lands b.at) || ((m.fed && nat_lt a.at b.lands) || (m.both_write && nat_lt a.lands b.lands))
+
+abbrev pub is_before : Meeting → (i j : ℕ) → Node → Node → Bool
+is_before m i j a b = not (nat_eq i j) && (before_by_times m a b || (m.in_list_order && nat_lt i j))
+
+-- a delay that is at least another, where that applies
+abbrev pub at_least : ℤ → Bool → ℤ → ℤ
+at_least delay applies other = if applies then int_max delay other else delay
+
+abbrev pub greatest_of : Meeting → Node → Node → ℤ
+greatest_of m a b =
+    at_least (at_least (at_least (at_least (negsuc 30) m.feeds (pos a.latency))
+    m.fed (pos 1 -ℤ pos b.latency))
+    m.both_write ((pos a.latency -ℤ pos b.latency) +ℤ pos 1))
+    m.in_list_order (pos 0)
+
+abbrev pub delay_of_nodes : (i j : ℕ) → Node → Node → Option ℤ
+delay_of_nodes i j a b = if is_before (meeting a b) i j a b then Some (greatest_of (meeting a b) a b) else None
+
+-- the node i
+abbrev pub node_at : List Node → ℕ → Node
+node_at nodes i = slice_index_or nodes i (node (λ k. 1) (record { guarded = halt; at = 0; latency = 1 }))
+
+-- the operation i of some words with their operations
+abbrev pub op_at : List WordOp → ℕ → TimedOp
+op_at ops i = (slice_index_or ops i (record { word = 0; timed = record { guarded = halt; at = 0; latency = 1 } })).timed
+
+-- no operation of these lands in a cycle that is no number of the code's
+abbrev pub LandInTime : List WordOp → Type 0
+LandInTime ops = (i : ℕ) → i < length ops → lands_at (op_at ops i) < 2 ^ 32
+
+-- each latency is at most 32
+abbrev pub AreShort : List Node → Type 0
+AreShort nodes = (i : ℕ) → i < length nodes → (node_at nodes i).latency ≤ 32
+
+-- the delays between operations under a generation's latencies
+pub record AreDelays (latency : LatKind → ℕ) (ops : List WordOp) (d : Table) : Type 0 where
+  pub count : d.count ≡ length ops
+  pub each : (i j : ℕ) → i < length ops → j < length ops → delay_of d i j ≡ delay_between latency i j (op_at ops i) (op_at ops j)

@@ -1,0 +1,175 @@
+// The dependence graph of a block: which operation comes before which, and by how many cycles.
+ghost use Rattle.std.specs.Prelude.{◌≡◌, ◌≤◌, ◌<◌, ◌^◌, ℕ, length, map, None, IfOk, IfSome};
+ghost use Rattle.machine_desc.specs.Description.{Description};
+ghost use Rattle.serial_order.specs.Table.{delay_of};
+ghost use Rattle.latency_deps.specs.Before.{lands_at};
+ghost use Rattle.latency_deps.specs.Delays.{IsDelayTable};
+ghost use Rattle.latency_deps.specs.Graph.{node, meeting, before_by_times as is_before_by_times, is_before as comes_before, at_least as is_at_least, greatest_of, delay_of_nodes, node_at, LandInTime, AreShort, AreDelays};
+
+use super::block::{GoodBlock, WordOp};
+use super::footprint::Footprint;
+use machine_desc::Generation;
+use operation::{Op, lat_kind};
+use serial_order::Delays;
+use std::alloc::{AllocError, Global};
+use timed_meaning::TimedOp;
+use tnk_base::NoMemory;
+use trap_order::ordered;
+
+/// An operation, and what decides when it comes before another.
+#[derive(Clone, Copy)]
+pub(crate) struct Node {
+    op: Op,
+    footprint: Footprint,
+    /// The cycle in which it issues, and that in which its writes land, by the block's own times.
+    at: u32,
+    lands: u32,
+    /// Its latency under the generation that the delays are for, 1 to 32.
+    latency: u8,
+}
+
+/// What stands between two operations, whatever their times.
+#[derive(Clone, Copy)]
+pub(crate) struct Meeting {
+    /// The first writes what the second reads.
+    feeds: bool,
+    /// The first reads what the second writes.
+    fed: bool,
+    /// Both write a register, predicate or target, not as one wired family there.
+    both_write: bool,
+    /// Both can trap, or both are `inb`. Stores can trap.
+    in_list_order: bool,
+}
+
+/// The operation of a node, under the latencies of a generation.
+fn node_of<G: Generation>(timed: &TimedOp, g: &G) -> Node
+    requires { lands_at timed.now < 2 ^ 32 }
+    ensures { result ≡ node (G.description g.now).latency timed.now }
+{
+    let op = timed.guarded.op;
+    Node {
+        op,
+        footprint: Footprint::of(&timed.guarded),
+        at: timed.at,
+        lands: timed.at + timed.latency as u32,
+        latency: g.latency(lat_kind(&op)),
+    }
+}
+
+fn nodes<G: Generation>(alloc: Global, ops: &[WordOp], g: &G) -> Result<Vec<Node>, AllocError>
+    requires { LandInTime ops.now }
+    ensures { IfOk result (λ nodes. nodes.items ≡ map (λ o. node (G.description g.now).latency o.timed) ops.now) }
+{
+    let mut nodes = Vec::with_capacity(alloc, ops.len())?;
+    for op in ops {
+        nodes.push(node_of(&op.timed, g))?;
+    }
+    Ok(nodes)
+}
+
+fn meet(a: &Node, b: &Node) -> Meeting
+    ensures { result ≡ meeting a.now b.now }
+{
+    Meeting {
+        feeds: a.footprint.feeds(&b.footprint),
+        fed: b.footprint.feeds(&a.footprint),
+        both_write: a.footprint.clashes(&b.footprint),
+        in_list_order: ordered(&a.op, &b.op),
+    }
+}
+
+/// The greater of two delays, where the other one applies.
+fn at_least(delay: i8, applies: bool, other: i8) -> i8
+    ensures { result ≡ is_at_least delay applies other }
+{
+    if applies { delay.max(other) } else { delay }
+}
+
+impl Meeting {
+    /// Whether the times of the block let the first operation come before the second.
+    fn before_by_times(&self, a: &Node, b: &Node) -> bool
+        ensures { result ≡ is_before_by_times self.now a.now b.now }
+    {
+        (self.feeds & (a.lands <= b.at))
+            | (self.fed & (a.at < b.lands))
+            | (self.both_write & (a.lands < b.lands))
+    }
+
+    /// Whether the operation `a`, at the place i of the list, comes before `b`, at the place j.
+    fn is_before(&self, i: u16, a: &Node, j: u16, b: &Node) -> bool
+        ensures { result ≡ comes_before self.now i j a.now b.now }
+    {
+        i != j && (self.before_by_times(a, b) || self.in_list_order && i < j)
+    }
+
+    /// The greatest delay that applies.
+    fn greatest(&self, a: &Node, b: &Node) -> i8
+        requires first { a.now.latency ≤ 32 }
+        requires second { b.now.latency ≤ 32 }
+        ensures { result ≡ greatest_of self.now a.now b.now }
+    {
+        let (first, second) = (a.latency as i8, b.latency as i8);
+        let delay = at_least(-31, self.feeds, first);
+        let delay = at_least(delay, self.fed, 1 - second);
+        let delay = at_least(delay, self.both_write, first - second + 1);
+        at_least(delay, self.in_list_order, 0)
+    }
+}
+
+/// The delay of the operation `a`, at the place i, before `b`, at the place j; None where it isn't before it.
+fn delay(i: u16, a: &Node, j: u16, b: &Node) -> Option<i8>
+    requires first { a.now.latency ≤ 32 }
+    requires second { b.now.latency ≤ 32 }
+    ensures delay { result ≡ delay_of_nodes i j a.now b.now }
+    ensures differ { IfSome result (λ _. i ≡ j → ⊥) }
+{
+    let meeting = meet(a, b);
+    if meeting.is_before(i, a, j, b) {
+        Some(meeting.greatest(a, b))
+    } else {
+        None
+    }
+}
+
+/// The delays of one operation before the others.
+fn fill_row(d: &mut Delays, nodes: &[Node], i: u16)
+    requires size { length nodes.now ≡ d.old.count }
+    requires inside { i < d.old.count }
+    requires short { AreShort nodes.now }
+    requires empty { (j : ℕ) → delay_of d.old i j ≡ None }
+    ensures count { d.new.count ≡ d.old.count }
+    ensures here { (j : ℕ) → j < d.old.count → delay_of d.new i j ≡ delay_of_nodes i j (node_at nodes.now i) (node_at nodes.now j) }
+    ensures elsewhere { (k j : ℕ) → (k ≡ i → ⊥) → delay_of d.new k j ≡ delay_of d.old k j }
+{
+    let a = &nodes[i as usize];
+    for j in 0..d.count() {
+        if let Some(delay) = delay(i, a, j, &nodes[j as usize]) {
+            d.set(i, j, delay);
+        }
+    }
+}
+
+/// The delays between the operations of a block, under the latencies of a generation.
+pub(crate) fn delays_of<G: Generation>(
+    alloc: Global,
+    ops: &[WordOp],
+    g: &G,
+) -> Result<Delays, NoMemory>
+    requires few { length ops.now ≤ 512 }
+    requires time { LandInTime ops.now }
+    ensures { IfOk result (AreDelays (G.description g.now).latency ops.now) }
+{
+    let nodes = nodes(alloc, ops, g)?;
+    let mut d = Delays::new(alloc, ops.len() as u16)?;
+    for i in 0..d.count() {
+        fill_row(&mut d, &nodes, i);
+    }
+    Ok(d)
+}
+
+/// The delays between the operations of a block, under the latencies of the generation on which it is to run.
+pub fn delays<G: Generation>(alloc: Global, b: &GoodBlock, g: &G) -> Result<Delays, NoMemory>
+    ensures { IfOk result (IsDelayTable (G.description g.now) b.now) }
+{
+    delays_of(alloc, &b.ops, g)
+}
