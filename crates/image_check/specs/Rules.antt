@@ -47,6 +47,7 @@ block_rule block.Drain = rule.Drain
 block_rule block.BranchEnd = rule.BranchEnd
 block_rule block.BranchShadow = rule.BranchShadow
 block_rule block.Landing = rule.Landing
+block_rule block.Cycle = rule.Cycle
 
 -- a rule that is broken at a place, and in a block at an operation
 abbrev pub refusal : Rule → (at op : ℕ) → Refusal

@@ -47,6 +47,8 @@ pub enum Rule {
     BranchShadow,
     /// Two operations that write one place, not as one wired family, don't land in one cycle.
     Landing,
+    /// A block's operations have a serial order.
+    Cycle,
     /// The last row's block has a `bru` or `halt` that is always taken.
     Successor,
 }

@@ -396,6 +396,23 @@ fn faults_of_a_block(rt: HostRuntime) -> Result<(), Fail> {
                 0,
                 1,
             ),
+            // `add r1, r2, r0`, `add r2, r1, r0` and `halt r0` together.
+            (
+                T2,
+                0,
+                &[(0, 3)],
+                &[(
+                    0,
+                    &[
+                        0x8040_8022_0000_0000,
+                        0x0000_8041_0000_0000,
+                        0x202A_0000_0000_0000,
+                    ],
+                )],
+                Rule::Cycle,
+                0,
+                0,
+            ),
             (T1, 0, &[(0, 2)], &[(0, &[ADD, PUT])], Rule::Successor, 0, 1),
             // A `halt` under p1 may go on.
             (
@@ -445,6 +462,16 @@ fn the_first_of_several_faults(rt: HostRuntime) -> Result<(), Fail> {
                 Rule::Drain,
                 0,
                 1,
+            ),
+            // So does its order: two registers are swapped, and no branch follows.
+            (
+                T2,
+                0,
+                &[(0, 2)],
+                &[(0, &[0x8000_8022_0000_0000, 0x0000_8041_0000_0000])],
+                Rule::Cycle,
+                0,
+                0,
             ),
             // Only the last row wants a branch that is always taken.
             (
