@@ -14,6 +14,8 @@ ghost use Rattle.tinker_top.specs.Top.{IsDone, IsPartOf, IsReady, AsksPart};
 
 mod commands;
 #[cfg(test)]
+mod compares;
+#[cfg(test)]
 mod images;
 #[cfg(test)]
 mod programs;
