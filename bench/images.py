@@ -1,6 +1,7 @@
 """Images for timing, laid out byte by byte: `python3 images.py FOLDER` writes them there."""
 
 import os
+import random
 import struct
 import sys
 
@@ -15,12 +16,20 @@ def word(opcode, unit, d=0, s=0, tail=0, head=True):
     return head << 63 | UNITS[unit] << 59 | opcode << 47 | d << 37 | s << 32 | tail
 
 
+def add(d, s, t, head=True):
+    return word(1, "I", d, s, t, head)
+
+
 def addi(d, s, number, head=True):
     return word(17, "I", d, s, number, head)
 
 
 def pbr(d, address, head=True):
     return word(33, "I", d, 0, address, head)
+
+
+def mul(d, s, t, head=True):
+    return word(40, "M", d, s, t, head)
 
 
 def ldw(d, s, number, head=True):
@@ -66,8 +75,25 @@ def full_pages():
     return image(256, [(512 * n, adds + [halt(0)]) for n in range(256)], 1_048_576, bytes(1_048_576))
 
 
+def dense():
+    """256 blocks of 500 operations, one in each MultiOp, over all registers: about one pair in six is ordered."""
+    draw = random.Random(1)
+    make = [
+        lambda d, s, t: add(d, s, t),
+        lambda d, s, t: addi(d, s, t),
+        lambda d, s, t: mul(d, s, t),
+        lambda d, s, t: ldw(d, s, 4 * t),
+        lambda d, s, t: stw(d, s, 4 * t),
+    ]
+    blocks = []
+    for n in range(256):
+        block = [draw.choice(make)(*(draw.randrange(1, 32) for _ in range(3))) for _ in range(499)]
+        blocks.append((512 * n, block + [halt(0)]))
+    return image(256, blocks, 1_048_576)
+
+
 def main():
-    for name, make in [("loop", loop), ("single_words", single_words), ("full_pages", full_pages)]:
+    for name, make in [("loop", loop), ("single_words", single_words), ("full_pages", full_pages), ("dense", dense)]:
         with open(os.path.join(sys.argv[1], name), "wb") as out:
             out.write(make())
 

@@ -1,11 +1,13 @@
 """Times the built program: `python3 bench/time.py [PROGRAM]`, after `rt ci` or `rt run` has built it.
 
 Each line tells the command, the seconds of the quickest of five runs, and the most memory that it took as a multiple of
-its file. The images are written by another process, so that this one stays small: the system counts its memory, some
+its file. The last line compares the check of an image of many pairs of operations with plain.rs, plain Rust that does the
+search for orders alone; it wants `rustc`. The images are written by another process, so that this one stays small: the system counts its memory, some
 10 million bytes, as the least that a child takes.
 """
 
 import os
+import shutil
 import subprocess
 import sys
 import tempfile
@@ -30,6 +32,18 @@ def measure(program, folder, words):
     runs = [run(program, folder, words) for _ in range(RUNS)]
     seconds, memory = min(r[0] for r in runs), max(r[1] for r in runs)
     print(f"{' '.join(words)}: {seconds:.3f} s, {memory} bytes, {memory / size:.1f} times the file of {size}")
+    return seconds
+
+
+def compare(program, here, folder):
+    """The check of `dense` beside plain.rs."""
+    plain = os.path.join(folder, "plain")
+    if shutil.which("rustc") is None:
+        sys.exit("no rustc: plain.rs isn't compared")
+    subprocess.run(["rustc", "--edition", "2024", "-O", "-o", plain, os.path.join(here, "plain.rs")], check=True)
+    seconds = measure(program, folder, ["check", "dense"])
+    least = min(run(plain, folder, ["check", "dense"])[0] for _ in range(RUNS))
+    print(f"plain.rs over dense: {least:.3f} s; the check takes {seconds / least:.1f} times that")
 
 
 def main():
@@ -41,6 +55,7 @@ def main():
         measure(program, folder, ["check", "full_pages"])
         measure(program, folder, ["meaning", "loop", "-"])
         measure(program, folder, ["run", "loop", "own", "-"])
+        compare(program, here, folder)
 
 
 main()
