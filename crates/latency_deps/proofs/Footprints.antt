@@ -1,10 +1,10 @@
 -- Footprints say which operation feeds which, and which two write one place.
 use Rattle.std.proofs.Common.{◌≡◌, ℕ, ◌^◌, Bool, true, false, not, cond, ◌||◌, ◌&&◌, List, [], ◌∷◌, ◌++◌, Option, Some, None, refl, sym, ap, ◌∙◌}
-use Rattle.std.specs.Prelude.{filter, option_map, bit_and}
+use Rattle.std.specs.Prelude.{nat_eq, filter, option_map, bit_and, bit_or}
 use Rattle.std.specs.Bool.{then_some}
 use Rattle.std.specs.List.{list_any, AllByRecursion}
 use Rattle.std.proofs.Math.Bool.{and-true, and-false, or-false, or_assoc, and-or_distrib_right}
-use Rattle.std.proofs.lemmas.Bool.{false_from_ne_true}
+use Rattle.std.proofs.lemmas.Bool.{false_from_ne_true, or_parts, or_from, and_left, and_right, not-false, eqb-true}
 use Rattle.operation.specs.declared.Op.{Op}
 use Rattle.operation.specs.declared.Op.TheVariants as op
 use Rattle.operation.specs.declared.Guarded.{Guarded}
@@ -19,8 +19,8 @@ use Rattle.latency_deps.specs.declared.footprint.Role.{Role}
 use Rattle.latency_deps.specs.declared.footprint.Role.TheVariants as role
 use Rattle.latency_deps.specs.Tests.{is_memory, both_write, both_write_at}
 use Rattle.latency_deps.specs.Before.{feeds, keep_list_order}
-use Rattle.latency_deps.specs.Footprint.{place_number, only, set_of, meets, operands, read_places, role_in, role_at, same_role, written_as, footprint, is_fed, write_both}
-use Rattle.latency_deps.proofs.PlaceSets.{some_in_four, meets_comm, meets_none, meets_either, meets_alone}
+use Rattle.latency_deps.specs.Footprint.{place_number, only, set_of, meets, operands, read_places, role_in, role_at, same_role, written_as, footprint, are_strangers, is_fed, write_both}
+use Rattle.latency_deps.proofs.PlaceSets.{some_in_either, some_in_four, meets_comm, meets_none, meets_either, meets_alone}
 use Rattle.latency_deps.proofs.PlaceRanges.{InRange, same_is, same_number, written_in_range, read_in_range, kept_in_range}
 
 -- ---- stores in list order
@@ -287,3 +287,38 @@ module _ (a b : Guarded) where
 -- both operations write a place, not as one wired family, where their footprints say so
 pub clash_law : (a b : Guarded) → write_both (footprint a) (footprint b) ≡ both_write a.op b.op
 clash_law a b = by_place a b ∙ any_agree (in_common a b) (both_write_at a.op b.op) (at_place a b) (destinations b.op)
+
+-- ---- operations that have nothing in common
+
+-- three sets of places are empty where their union is
+none_in_three : (a b c : ℕ) → nat_eq (bit_or (bit_or a b) c) 0 ≡ true → (a ≡ 0) × (b ≡ 0) × (c ≡ 0)
+none_in_three a b c e =
+    let p = or_parts _ _ (sym (some_in_either (bit_or a b) c) ∙ ap not e) in
+    let q = or_parts _ _ (sym (some_in_either a b) ∙ p.0) in
+    (eqb-true a 0 (not-false (nat_eq a 0) q.0), eqb-true b 0 (not-false (nat_eq b 0) q.1), eqb-true c 0 (not-false (nat_eq c 0) p.1))
+
+any_less : (p q : Place → Bool) → ((x : Place) → q x ≡ false → p x ≡ false) → (xs : List Place) → list_any q xs ≡ false → list_any p xs ≡ false
+any_less p q less [] e = refl
+any_less p q less (x ∷ xs) e =
+    let parts = or_parts (q x) (list_any q xs) e in
+    or_from (p x) (list_any p xs) (less x parts.0) (any_less p q less xs parts.1)
+
+-- neither feeds the other, and they write no place together
+pub record AreStrangers (a b : Guarded) : Type 0 where
+  pub to : feeds a b ≡ false
+  pub from : feeds b a ≡ false
+  pub apart : both_write a.op b.op ≡ false
+
+pub strangers_law : (a b : Guarded) → are_strangers (footprint a) (footprint b) ≡ true → AreStrangers a b
+strangers_law a b e =
+    let none = none_in_three _ _ _ e in
+    record {
+      to = sym (feeds_law a b) ∙ ap (λ n. not (nat_eq n 0)) none.0;
+      from = sym (feeds_law b a) ∙ meets_comm (footprint b).writes (footprint a).reads ∙ ap (λ n. not (nat_eq n 0)) none.2;
+      apart =
+          any_less (both_write_at a.op b.op) (writes a.op)
+          (λ x unwritten. and_right (not (is_memory x)) (writes a.op x && not (are_wired_together a.op b.op x))
+          (and_left (writes a.op x) (not (are_wired_together a.op b.op x)) unwritten))
+          (destinations b.op)
+          (sym (meets_all a b (destinations a.op) (written_in_range a)) ∙ ap (λ n. not (nat_eq n 0)) none.1);
+    }

@@ -1,9 +1,10 @@
 -- What the nodes of the graph say is what the operations say.
-use Rattle.std.proofs.Common.{◌≡◌, ℕ, ◌≤◌, Bool, true, false, cond, not, ◌&&◌, ◌||◌, List, ◌++◌, refl, sym, ap, subst, ◌∙◌, Option, Some, None, arith}
+use Rattle.std.proofs.Common.{◌≡◌, ℕ, ◌≤◌, Bool, true, false, cond, not, ◌&&◌, ◌||◌, List, [], ◌++◌, refl, sym, ap, subst, ◌∙◌, Option, Some, None, arith}
 use Rattle.std.specs.Prelude.{nat_eq, nat_lt, nat_le, ℤ, pos, negsuc, ◌+ℤ◌, ◌-ℤ◌, ◌≤ℤ◌, is_some}
 use Rattle.std.specs.Int.{int_max}
 use Rattle.std.specs.List.{fold}
 use Rattle.std.proofs.lemmas.Int.{ints, clamps}
+use Rattle.std.proofs.lemmas.Bool.{and_right}
 use Rattle.operation.specs.declared.Guarded.{Guarded}
 use Rattle.operation.specs.declared.LatKind.{LatKind}
 use Rattle.operation.specs.Places.{latency_kind}
@@ -12,9 +13,9 @@ use Rattle.timed_meaning.specs.declared.TimedOp.{TimedOp}
 use Rattle.latency_deps.specs.declared.graph.Meeting.{Meeting}
 use Rattle.latency_deps.specs.Tests.{both_write}
 use Rattle.latency_deps.specs.Before.{lands_at, feeds, keep_list_order, comes_before, where_applies, applying, greatest, delay_between}
-use Rattle.latency_deps.specs.Footprint.{footprint, is_fed, write_both}
-use Rattle.latency_deps.specs.Graph.{node, is_before, at_least, greatest_of, delay_of_nodes}
-use Rattle.latency_deps.proofs.Footprints.{feeds_law, clash_law, keep_law}
+use Rattle.latency_deps.specs.Footprint.{footprint, are_strangers, is_fed, write_both}
+use Rattle.latency_deps.specs.Graph.{node, meeting, is_before, at_least, greatest_of, delay_by_meeting, delay_of_nodes}
+use Rattle.latency_deps.proofs.Footprints.{feeds_law, clash_law, keep_law, strangers_law}
 
 reorder : (x y z t : Bool) → ((x || (y || z)) || t) ≡ (x || (y || (z || t)))
 reorder true y z t = refl
@@ -72,8 +73,8 @@ module _ (latency : LatKind → ℕ) (i j : ℕ) (a b : TimedOp) where
       (reorder (f && nat_le (lands_at a) b.at) (g && nat_lt a.at (lands_at b)) (w && nat_lt (lands_at a) (lands_at b)) (k && nat_lt i j))
       ∙ ap (λ (z : ℤ). cond (test f g w k) (Some z) None) (sym (greatest_is f g w k (pos la) (pos 1 -ℤ pos lb) ((pos la -ℤ pos lb) +ℤ pos 1) (pos 0)))
 
-  pub delay_law : delay_of_nodes i j (node latency a) (node latency b) ≡ delay_between latency i j a b
-  delay_law =
+  by_meeting : delay_by_meeting (meeting (node latency a) (node latency b)) i j (node latency a) (node latency b) ≡ delay_between latency i j a b
+  by_meeting =
       let ga = a.guarded in
       let gb = b.guarded in
       let fa = footprint ga in
@@ -83,6 +84,27 @@ module _ (latency : LatKind → ℕ) (i j : ℕ) (a b : TimedOp) where
       ∙ ap (λ (w : Bool). by_nodes (feeds ga gb) (feeds gb ga) w (keep_issue_order ga.op gb.op)) (clash_law ga gb)
       ∙ ap (λ (k : Bool). by_nodes (feeds ga gb) (feeds gb ga) (both_write ga.op gb.op) k) (sym (keep_law ga.op gb.op))
       ∙ alike (feeds ga gb) (feeds gb ga) (both_write ga.op gb.op) (keep_list_order ga.op gb.op)
+
+  -- operations that have nothing in common come in no order
+  no_delay : are_strangers (footprint a.guarded) (footprint b.guarded) ≡ true → keep_issue_order a.guarded.op b.guarded.op ≡ false → delay_between latency i j a b ≡ None
+  no_delay e f =
+      let ga = a.guarded in
+      let gb = b.guarded in
+      let none = strangers_law ga gb e in
+      ap (λ (x : Bool). by_cases x (feeds gb ga) (both_write ga.op gb.op) (keep_list_order ga.op gb.op)) none.to
+      ∙ ap (λ (x : Bool). by_cases false x (both_write ga.op gb.op) (keep_list_order ga.op gb.op)) none.from
+      ∙ ap (λ (x : Bool). by_cases false false x (keep_list_order ga.op gb.op)) none.apart
+      ∙ ap (λ (x : Bool). by_cases false false false x) (keep_law ga.op gb.op ∙ f)
+      ∙ ap (λ (x : Bool). cond x (Some (greatest [])) None) (and_right (not (nat_eq i j)) false refl)
+
+  pub delay_law : delay_of_nodes i j (node latency a) (node latency b) ≡ delay_between latency i j a b
+  delay_law = go (are_strangers (footprint a.guarded) (footprint b.guarded)) refl (keep_issue_order a.guarded.op b.guarded.op) refl
+    where
+      go : (s : Bool) → are_strangers (footprint a.guarded) (footprint b.guarded) ≡ s → (k : Bool) → keep_issue_order a.guarded.op b.guarded.op ≡ k →
+          cond (s && not k) None (delay_by_meeting (meeting (node latency a) (node latency b)) i j (node latency a) (node latency b)) ≡ delay_between latency i j a b
+      go true e true f = by_meeting
+      go true e false f = sym (no_delay e f)
+      go false e k f = by_meeting
 
 -- there is a delay exactly where the one comes before the other
 pub delay_there : (latency : LatKind → ℕ) (i j : ℕ) (a b : TimedOp) → is_some (delay_between latency i j a b) ≡ comes_before i j a b

@@ -49,7 +49,7 @@ set_of-six x a b c d e = simp (set_of-append, or_assoc)
 
 -- ---- sets that meet
 
-some_in_either : (a b : ℕ) → not (nat_eq (bit_or a b) 0) ≡ (not (nat_eq a 0) || not (nat_eq b 0))
+pub some_in_either : (a b : ℕ) → not (nat_eq (bit_or a b) 0) ≡ (not (nat_eq a 0) || not (nat_eq b 0))
 some_in_either a b = grind (arith, nat_tests, or_add_and a b, and_le_l a b, and_le_r a b)
 
 pub some_in_four : (a b c d : ℕ) →

@@ -83,6 +83,10 @@ footprint g = record {
 abbrev pub is_fed : Footprint → Footprint → Bool
 is_fed a b = meets a.writes b.reads
 
+-- neither reads or writes what the other writes
+abbrev pub are_strangers : Footprint → Footprint → Bool
+are_strangers a b = nat_eq (bit_or (bit_or (bit_and a.writes b.reads) (bit_and a.writes b.writes)) (bit_and a.reads b.writes)) 0
+
 -- both write a register, predicate or target, and aren't wired there in one family
 abbrev pub write_both : Footprint → Footprint → Bool
 write_both a b =

@@ -11,7 +11,7 @@ use Rattle.latency_deps.specs.declared.block.WordOp.{WordOp}
 use Rattle.latency_deps.specs.declared.graph.Node.{Node}
 use Rattle.latency_deps.specs.declared.graph.Meeting.{Meeting}
 use Rattle.latency_deps.specs.Before.{lands_at, delay_between}
-use Rattle.latency_deps.specs.Footprint.{footprint, is_fed, write_both}
+use Rattle.latency_deps.specs.Footprint.{footprint, are_strangers, is_fed, write_both}
 
 -- an operation as a node
 abbrev pub node : (LatKind → ℕ) → TimedOp → Node
@@ -51,8 +51,16 @@ greatest_of m a b =
     m.both_write ((pos a.latency -ℤ pos b.latency) +ℤ pos 1))
     m.in_list_order (pos 0)
 
+-- nothing stands between two operations
+abbrev pub have_nothing : Node → Node → Bool
+have_nothing a b = are_strangers a.footprint b.footprint && not (keep_issue_order a.op b.op)
+
+-- where something does, the greatest delay of those that apply
+abbrev pub delay_by_meeting : Meeting → (i j : ℕ) → Node → Node → Option ℤ
+delay_by_meeting m i j a b = if is_before m i j a b then Some (greatest_of m a b) else None
+
 abbrev pub delay_of_nodes : (i j : ℕ) → Node → Node → Option ℤ
-delay_of_nodes i j a b = if is_before (meeting a b) i j a b then Some (greatest_of (meeting a b) a b) else None
+delay_of_nodes i j a b = if have_nothing a b then None else delay_by_meeting (meeting a b) i j a b
 
 -- the node i
 abbrev pub node_at : List Node → ℕ → Node

@@ -1,7 +1,7 @@
 // What an operation reads and writes, as sets of places, so that two operations are compared at once.
 ghost use Rattle.std.specs.Prelude.{◌≡◌, ◌<◌, IfSome};
 ghost use Rattle.operation.specs.Places.{if_any, destinations as destinations_of};
-ghost use Rattle.latency_deps.specs.Footprint.{place_number, only as only_place, set_of, read_places, role_at as role_of, same_role, written_as as places_written_as, footprint, is_fed, write_both};
+ghost use Rattle.latency_deps.specs.Footprint.{place_number, only as only_place, set_of, read_places, role_at as role_of, same_role, written_as as places_written_as, footprint, are_strangers, is_fed, write_both};
 
 use operation::places::{destinations, is_constant, sources};
 use operation::{Family, Guarded, Op, Place, wired};
@@ -125,6 +125,16 @@ impl Footprint {
             ones: written_as(g, Role::One),
             zeros: written_as(g, Role::Zero),
         }
+    }
+
+    /// Whether neither reads or writes a place that the other one writes.
+    pub(crate) fn is_stranger_to(&self, other: &Self) -> bool
+        ensures { result ≡ are_strangers self.now other.now }
+    {
+        let common = self.writes & other.reads
+            | self.writes & other.writes
+            | self.reads & other.writes;
+        common == 0
     }
 
     /// Whether it writes a place that the other one reads.

@@ -123,6 +123,9 @@ fn delay(i: u16, a: &Node, j: u16, b: &Node) -> Option<i8>
     ensures delay { result ≡ delay_of_nodes i j a.now b.now }
     ensures differ { IfSome result (λ _. i ≡ j → ⊥) }
 {
+    if a.footprint.is_stranger_to(&b.footprint) && !ordered(&a.op, &b.op) {
+        return None;
+    }
     let meeting = meet(a, b);
     if meeting.is_before(i, a, j, b) {
         Some(meeting.greatest(a, b))

@@ -1,4 +1,4 @@
-use Rattle.std.proofs.Common.{inl, Option, Some}
+use Rattle.std.proofs.Common.{inl}
 use Rattle.std.specs.Option.{ForSome}
 use Rattle.tnk_base.specs.declared.host.Asked.TheVariants.{Fetch}
 use Rattle.image_format.specs.Image.{image_in}
