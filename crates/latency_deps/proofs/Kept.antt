@@ -18,7 +18,11 @@ use Rattle.latency_deps.specs.Timing.{ops_of, own_timing}
 use Rattle.latency_deps.specs.Rules.{least_breaking, first_among, first_broken, end_of}
 use Rattle.latency_deps.specs.Block.{Block, IsGood, block_in, block_with}
 use Rattle.latency_deps.specs.Candidate.{AreTimed, word_op}
-use Rattle.latency_deps.specs.Asked.{rules_on_times, rules_from_times}
+use Rattle.latency_deps.specs.Asked.{rules_on_times}
+
+-- the rules on times, and behind them the rule on order
+abbrev rules_from_times : List BlockRule
+rules_from_times = rules_on_times ++ rule.Cycle ∷ []
 
 skip : (least : BlockRule → Option ℕ) (r : BlockRule) (rs : List BlockRule) → least r ≡ None → first_among least (r ∷ rs) ≡ first_among least rs
 skip least r rs e = ap (λ (o : Option ℕ). elim o as (λ _. Option (BlockRule × ℕ)) [ Some k ↦ Some (r, k) | None ↦ first_among least rs ]) e

@@ -20,16 +20,6 @@ none_from test a (suc n) j e low high = go (test a) refl e (λ rest above. none_
 pub none_at : (test : ℕ → Bool) (n j : ℕ) → find test (range_with_len 0 n) ≡ None → j < n → test j ≡ false
 none_at test n j e h = none_from test 0 n j e (omega arith) (omega arith)
 
-same_from : (p q : ℕ → Bool) (a n : ℕ) → ((j : ℕ) → a ≤ j → j < a + n → p j ≡ q j) → find p (range_with_len a n) ≡ find q (range_with_len a n)
-same_from p q a zero h = refl
-same_from p q a (suc n) h =
-    ap (λ b. cond b (Some a) (find p (range_with_len (a + 1) n))) (h a (omega arith) (omega arith))
-    ∙ ap (λ (o : Option ℕ). cond (q a) (Some a) o) (same_from p q (a + 1) n (λ j low high. h j (omega arith) (omega arith)))
-
--- tests that agree find the same
-pub same_found : (p q : ℕ → Bool) (n : ℕ) → ((j : ℕ) → j < n → p j ≡ q j) → find p (range_with_len 0 n) ≡ find q (range_with_len 0 n)
-same_found p q n h = same_from p q 0 n (λ j low high. h j (omega arith))
-
 some_from : (test : ℕ → Bool) (a n k : ℕ) → find test (range_with_len a n) ≡ Some k → (k < a + n) × (test k ≡ true)
 some_from test a zero k e = absurd (let c : ⊥ = cc in c)
 some_from test a (suc n) k e = go (test a) refl e (λ rest. some_from test (a + 1) n k rest)

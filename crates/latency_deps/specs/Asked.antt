@@ -1,5 +1,5 @@
 -- What the rules say of a candidate's words.
-use Rattle.std.specs.Prelude.{ℕ, ◌+◌, ◌-◌, Bool, ◌&&◌, nat_eq, Option, List, [], ◌∷◌, ◌++◌, length, find}
+use Rattle.std.specs.Prelude.{ℕ, ◌+◌, ◌-◌, Bool, ◌&&◌, nat_eq, Option, List, [], ◌∷◌, length, find}
 use Rattle.std.specs.List.{range_with_len}
 use Rattle.operation.specs.declared.Guarded.{Guarded}
 use Rattle.machine_desc.specs.Value.{description_of}
@@ -40,7 +40,3 @@ abbrev pub rules_on_times : List BlockRule
 rules_on_times =
     rule.Width ∷ (rule.Units ∷ (rule.SecondBranch ∷ (rule.Target ∷
     (rule.Drain ∷ (rule.BranchEnd ∷ (rule.BranchShadow ∷ (rule.Landing ∷ [])))))))
-
--- and the rule on their order behind them
-abbrev pub rules_from_times : List BlockRule
-rules_from_times = rules_on_times ++ rule.Cycle ∷ []

@@ -33,7 +33,7 @@ comes_before i j a b =
     || ((both_write a.guarded.op b.guarded.op && nat_lt (lands_at a) (lands_at b))
     || (keep_list_order a.guarded.op b.guarded.op && nat_lt i j))))
 
--- i comes before j, by the times of a block
+-- i comes before j, by the times of a block whose operations are listed by their numbers
 abbrev pub before_by : (ℕ → Guarded) → Timing → ℕ → ℕ → Bool
 before_by ops t i j = comes_before i j (timed ops t i) (timed ops t j)
 

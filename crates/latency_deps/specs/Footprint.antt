@@ -58,6 +58,7 @@ role_at o (Predicate p) = role_in (wired o p)
 role_at o Memory = role.Store
 role_at o _ = role.Plain
 
+-- whether two roles are one
 abbrev pub same_role : Role → Role → Bool
 same_role role.Plain role.Plain = true
 same_role role.One role.One = true

@@ -32,18 +32,20 @@ meeting a b = record {
   in_list_order = keep_issue_order a.op b.op;
 }
 
--- by that and their times the first comes before the second
+-- by that and their times the first comes before the second, whatever their places in the list
 abbrev pub before_by_times : Meeting → Node → Node → Bool
 before_by_times m a b =
     (m.feeds && nat_le a.lands b.at) || ((m.fed && nat_lt a.at b.lands) || (m.both_write && nat_lt a.lands b.lands))
 
+-- a, at the place i of the list, comes before b, at the place j
 abbrev pub is_before : Meeting → (i j : ℕ) → Node → Node → Bool
 is_before m i j a b = not (nat_eq i j) && (before_by_times m a b || (m.in_list_order && nat_lt i j))
 
--- a delay that is at least another, where that applies
+-- the greater of two delays, where the other one applies
 abbrev pub at_least : ℤ → Bool → ℤ → ℤ
 at_least delay applies other = if applies then int_max delay other else delay
 
+-- the greatest of the delays that apply, and of -31, below which there is none
 abbrev pub greatest_of : Meeting → Node → Node → ℤ
 greatest_of m a b =
     at_least (at_least (at_least (at_least (negsuc 30) m.feeds (pos a.latency))
@@ -51,16 +53,17 @@ greatest_of m a b =
     m.both_write ((pos a.latency -ℤ pos b.latency) +ℤ pos 1))
     m.in_list_order (pos 0)
 
--- nothing stands between two operations
-abbrev pub have_nothing : Node → Node → Bool
-have_nothing a b = are_strangers a.footprint b.footprint && not (keep_issue_order a.op b.op)
+-- the two can stand in any order, whatever their times
+abbrev pub have_nothing_in_common : Node → Node → Bool
+have_nothing_in_common a b = are_strangers a.footprint b.footprint && not (keep_issue_order a.op b.op)
 
--- where something does, the greatest delay of those that apply
+-- the greatest delay of those that apply, where a comes before b
 abbrev pub delay_by_meeting : Meeting → (i j : ℕ) → Node → Node → Option ℤ
 delay_by_meeting m i j a b = if is_before m i j a b then Some (greatest_of m a b) else None
 
+-- the delay of a before b, if it is
 abbrev pub delay_of_nodes : (i j : ℕ) → Node → Node → Option ℤ
-delay_of_nodes i j a b = if have_nothing a b then None else delay_by_meeting (meeting a b) i j a b
+delay_of_nodes i j a b = if have_nothing_in_common a b then None else delay_by_meeting (meeting a b) i j a b
 
 -- the node i
 abbrev pub node_at : List Node → ℕ → Node
@@ -70,7 +73,7 @@ node_at nodes i = slice_index_or nodes i (node (λ k. 1) (record { guarded = hal
 abbrev pub op_at : List WordOp → ℕ → TimedOp
 op_at ops i = (slice_index_or ops i (record { word = 0; timed = record { guarded = halt; at = 0; latency = 1 } })).timed
 
--- no operation of these lands in a cycle that is no number of the code's
+-- each of these operations lands in a cycle below 2^32
 abbrev pub LandInTime : List WordOp → Type 0
 LandInTime ops = (i : ℕ) → i < length ops → lands_at (op_at ops i) < 2 ^ 32
 

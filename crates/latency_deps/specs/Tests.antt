@@ -25,9 +25,11 @@ up_to k = range_with_len 0 (suc k)
 abbrev pub below : ℕ → List ℕ
 below k = range_with_len 0 k
 
+-- the unit kind of an operation
 abbrev pub unit_of : (ℕ → Guarded) → ℕ → UnitKind
 unit_of ops k = unit_kind (ops k).op
 
+-- it is a branch
 abbrev pub is_branch_at : (ℕ → Guarded) → ℕ → Bool
 is_branch_at ops k = is_branch (ops k).op
 
@@ -62,6 +64,7 @@ abbrev pub prepares_elsewhere : Rows → Op → Bool
 prepares_elsewhere rows (op.Pbr d imm) = not (has_entry rows imm)
 prepares_elsewhere rows _ = false
 
+-- it is a `pbr` to an address that is no entry
 abbrev pub breaks_target : (ℕ → Guarded) → Rows → ℕ → Bool
 breaks_target ops rows k = prepares_elsewhere rows (ops k).op
 
@@ -82,6 +85,7 @@ shadows ops t k b =
 abbrev pub breaks_branch_shadow : (ℕ → Guarded) → Timing → (n k : ℕ) → Bool
 breaks_branch_shadow ops t n k = not (is_branch_at ops k) && list_any (shadows ops t k) (below n)
 
+-- the memory, and no register, predicate or target
 abbrev pub is_memory : Place → Bool
 is_memory Memory = true
 is_memory _ = false

@@ -1,9 +1,6 @@
 // Worked delays. The words were put together from the tables of the format, and the pairs and their delays worked out by
 // hand, apart from this code.
 use crate::delays;
-use crate::laws::{
-    before_decided, good_blocks_in_other_timings, good_is_ordered, good_times_agree,
-};
 use crate::tests::{Numbers, ONES, T1, T2, T3, answer};
 use machine_desc::Mdes;
 use serial_order::Delays;
@@ -478,9 +475,5 @@ fn delays_under_three_descriptions(rt: HostRuntime) -> Result<(), Fail> {
     for case in &LATENT {
         has_these_pairs(&rt, rt.alloc(), case)?;
     }
-    before_decided();
-    good_is_ordered();
-    good_times_agree();
-    good_blocks_in_other_timings();
     Ok(())
 }

@@ -4,7 +4,7 @@ ghost use Rattle.machine_desc.specs.Description.{Description};
 ghost use Rattle.serial_order.specs.Table.{delay_of};
 ghost use Rattle.latency_deps.specs.Before.{lands_at};
 ghost use Rattle.latency_deps.specs.Delays.{IsDelayTable};
-ghost use Rattle.latency_deps.specs.Graph.{node, meeting, before_by_times as is_before_by_times, is_before as comes_before, at_least as is_at_least, greatest_of, delay_of_nodes, node_at, LandInTime, AreShort, AreDelays};
+ghost use Rattle.latency_deps.specs.Graph.{node, meeting, before_by_times as is_before_by_times, is_before as is_first, at_least as is_at_least, greatest_of, delay_of_nodes, node_at, LandInTime, AreShort, AreDelays};
 
 use super::block::{GoodBlock, WordOp};
 use super::footprint::Footprint;
@@ -86,7 +86,8 @@ fn at_least(delay: i8, applies: bool, other: i8) -> i8
 }
 
 impl Meeting {
-    /// Whether the times of the block let the first operation come before the second.
+    /// Whether the first operation comes before the second by the times of the block. No branch: pairs are many, and each
+    /// way is as likely as the other.
     fn before_by_times(&self, a: &Node, b: &Node) -> bool
         ensures { result ≡ is_before_by_times self.now a.now b.now }
     {
@@ -97,12 +98,12 @@ impl Meeting {
 
     /// Whether the operation `a`, at the place i of the list, comes before `b`, at the place j.
     fn is_before(&self, i: u16, a: &Node, j: u16, b: &Node) -> bool
-        ensures { result ≡ comes_before self.now i j a.now b.now }
+        ensures { result ≡ is_first self.now i j a.now b.now }
     {
         i != j && (self.before_by_times(a, b) || self.in_list_order && i < j)
     }
 
-    /// The greatest delay that applies.
+    /// The greatest delay that applies. None is below -31: that of a reader before a writer with a latency of 32.
     fn greatest(&self, a: &Node, b: &Node) -> i8
         requires first { a.now.latency ≤ 32 }
         requires second { b.now.latency ≤ 32 }
@@ -123,6 +124,7 @@ fn delay(i: u16, a: &Node, j: u16, b: &Node) -> Option<i8>
     ensures delay { result ≡ delay_of_nodes i j a.now b.now }
     ensures differ { IfSome result (λ _. i ≡ j → ⊥) }
 {
+    // Most pairs have nothing in common.
     if a.footprint.is_stranger_to(&b.footprint) && !ordered(&a.op, &b.op) {
         return None;
     }

@@ -31,7 +31,7 @@ pub enum BlockRule {
     /// What the branch reads has landed when it issues, but for what it writes itself.
     BranchShadow,
     /// Two operations that write one register, predicate or target, not as one wired family, don't land in one cycle;
-    /// and a compare's destinations that are one predicate are of one family.
+    /// and a compare's destinations that are one predicate other than p0 are of one family.
     Landing,
     /// The operations have a serial order: none is among some of which each has one of them before it.
     Cycle,

@@ -1,7 +1,10 @@
 // Worked blocks. The words were put together from the tables of the format, apart from this code.
 ghost use Rattle.std.specs.Prelude.{◌≤◌, length};
 
-use crate::laws::{good_is_timed, none_broken, told_first};
+use crate::laws::{
+    before_decided, good_blocks_in_other_timings, good_is_ordered, good_is_timed, good_times_agree,
+    none_broken, told_first,
+};
 use crate::{BlockFault, BlockRule, GoodBlock, GoodPage, analyse};
 use block_table::Table;
 use machine_desc::Mdes;
@@ -617,9 +620,6 @@ fn the_longest_block(rt: HostRuntime) -> Result<(), Fail> {
     }
     let fault = answer(rt.alloc(), T2, &words)?.err();
     assert_eq!(rt; fault, Some(BlockFault::Broken(BlockRule::BranchEnd, 511)));
-    none_broken();
-    told_first();
-    good_is_timed();
     Ok(())
 }
 
@@ -631,4 +631,15 @@ fn the_empty_page(rt: HostRuntime) -> Result<(), Fail> {
     assert_eq!(rt; page.words().len(), 512);
     assert_eq!(rt; page.blocks(), 0);
     Ok(())
+}
+
+#[test]
+fn laws_take_nothing() {
+    none_broken();
+    told_first();
+    good_is_timed();
+    before_decided();
+    good_is_ordered();
+    good_times_agree();
+    good_blocks_in_other_timings();
 }

@@ -8,7 +8,7 @@ use Rattle.serial_order.specs.Lists.{Among, Earlier}
 use Rattle.trap_order.specs.Order.{keep_issue_order}
 use Rattle.two_timings.specs.Timing.{Timing, lands, BothWriteAt, IsOrderOf}
 
--- i comes before j
+-- i comes before j, another operation
 pub data Before (ops : ℕ → Guarded) (t : Timing) (i j : ℕ) : Type 0 where
   -- i writes a register, predicate or target that j reads, and lands at or before j's issue
   Read : (x : Place) → x ≢ Memory → IsTrue (writes (ops i).op x) → IsTrue (reads (ops j) x) → lands ops t i ≤ t.at j → Before ops t i j

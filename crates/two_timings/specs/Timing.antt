@@ -50,7 +50,7 @@ pub record BothWriteAt (i j : Op) (x : Place) : Type 0 where
   pub second : IsTrue (writes j x)
   pub apart : IsFalse (are_wired_together i j x)
 
--- two operations that write one place don't land in one cycle
+-- two operations that write one register, predicate or target, not as one wired family, don't land in one cycle
 abbrev pub LandApart : (ℕ → Guarded) → Timing → Type 0
 LandApart ops t =
     (i j : ℕ) (x : Place) → Among i t.listed → Among j t.listed → i ≢ j → BothWriteAt (ops i).op (ops j).op x →
