@@ -43,9 +43,10 @@ pub enum Rule {
     Drain,
     /// The branch lands at the block's end.
     BranchEnd,
-    /// What the branch reads has landed when it issues.
+    /// What the branch reads has landed when it issues, but for what it writes itself.
     BranchShadow,
-    /// Two operations that write one place, not as one wired family, don't land in one cycle.
+    /// Two operations that write one register, predicate or target, not as one wired family, don't land in one cycle;
+    /// and a compare's destinations that are one predicate other than p0 are of one family.
     Landing,
     /// A block's operations have a serial order.
     Cycle,
