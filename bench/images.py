@@ -76,7 +76,7 @@ def full_pages():
 
 
 def dense():
-    """256 blocks of 500 operations, one in each MultiOp, over all registers: about one pair in six is ordered."""
+    """256 blocks of 500 operations, one in each MultiOp, over all registers: about one pair in four is ordered."""
     draw = random.Random(1)
     make = [
         lambda d, s, t: add(d, s, t),
