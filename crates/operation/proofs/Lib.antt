@@ -2,3 +2,4 @@
 pub mod GuardedParts
 pub mod EffectRanges
 pub mod WiredFamilies
+pub mod PlaceLaws

@@ -15,11 +15,12 @@ use Rattle.operation.specs.declared.Effect.{Effect}
 use Rattle.operation.specs.declared.Effect.TheVariants as effects
 use Rattle.operation.specs.declared.TrapKind.TheVariants.{OutputFull}
 use Rattle.operation.specs.Arithmetic.{bytes_of, extended}
-use Rattle.operation.specs.Places.{sources, is_source, is_read_by, reads, writes, is_constant, same_place, is_load, is_inb, is_outb, is_branch, can_trap, wired, are_wired_together}
+use Rattle.operation.specs.Places.{sources, is_source, reads, writes, is_constant, same_place, is_load, is_inb, is_outb, is_branch, can_trap, wired, are_wired_together}
+use Rattle.operation.proofs.PlaceLaws.{same_place_refl, reads_at, load_reads}
 use Rattle.operation.specs.Effects.{does, effect, is_compare}
 use Rattle.timed_meaning.specs.Values.{is_set}
 use Rattle.timed_meaning.specs.Block.{Act, idle, act_of, operands, operand, to_place, number_at}
-use Rattle.two_timings.proofs.Effects.{Suits, suits_effect, own, place_of, same_place_refl, effect_written, effect_put, effect_taken, effect_answer, effect_trap, family_value, wired_value, one_family}
+use Rattle.two_timings.proofs.Effects.{Suits, suits_effect, own, place_of, effect_written, effect_put, effect_taken, effect_answer, effect_trap, family_value, wired_value, one_family}
 
 -- ---- acts
 
@@ -71,15 +72,6 @@ no_trap_no_outb (op.Outb s) h = cc
 no_trap_no_outb o h = refl
 
 -- ---- what an operation does depends on what it reads
-
-reads_at :
-    (g : Guarded) (x : Place) → is_constant x ≡ false →
-    same_place x (Predicate g.guard) || is_read_by (sources g.op) x ≡ true → reads g x ≡ true
-reads_at g x c a = rw c a
-
-has_memory : (o : Op) → is_load o ≡ true → (sources o).memory ≡ true
-has_memory (op.Load size d s imm) h = refl
-has_memory o h = cc
 
 number_same :
     (v w : Cell → ℕ) → ((a : ℕ) → v (Byte a) ≡ w (Byte a)) → (address n : ℕ) → number_at v address n ≡ number_at w address n
@@ -145,7 +137,7 @@ module _
       same_operands memory full _ _ _ _ _ _ _ _ _ _ a b c d e
 
   memory_same : is_load g.op ≡ true → (a : ℕ) → v (Byte a) ≡ w (Byte a)
-  memory_same h a = agree (Byte a) (has_memory g.op h)
+  memory_same h a = agree (Byte a) (load_reads g.op h)
 
   act_same :
       (e : Effect) (byte byte' next : Option ℕ) → Suits g.op e → (is_inb g.op ≡ true → byte ≡ byte') →

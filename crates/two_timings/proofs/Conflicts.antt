@@ -1,14 +1,14 @@
 -- Of two operations that touch one place, or that keep their order in the list, one is before the other.
-use Rattle.std.proofs.Common.{◌≡◌, ◌≢◌, ℕ, ◌<◌, ◌≤◌, true, List, ◌⊎◌, inl, inr, refl, sym, ◌∙◌, Option, Some, None, IsTrue}
+use Rattle.std.proofs.Common.{◌≡◌, ◌≢◌, ℕ, ◌<◌, ◌≤◌, List, ◌⊎◌, inl, inr, refl, sym, ◌∙◌, Option, Some, None, IsTrue}
 use Rattle.std.proofs.lemmas.Bool.{cases_lt, cases_order}
 use Rattle.operation.specs.declared.Guarded.{Guarded}
 use Rattle.operation.specs.declared.Op.{Op}
-use Rattle.operation.specs.declared.Op.TheVariants as op
 use Rattle.operation.specs.declared.Place.{Place}
 use Rattle.operation.specs.declared.Place.TheVariants.{General, Predicate, Target, Memory}
 use Rattle.operation.specs.declared.Family.{Family}
 use Rattle.operation.specs.declared.Family.TheVariants.{One, Zero}
-use Rattle.operation.specs.Places.{reads, writes, sources, wired, same_family, are_wired_together, is_store, is_load}
+use Rattle.operation.specs.Places.{reads, writes, wired, same_family, are_wired_together}
+use Rattle.operation.proofs.PlaceLaws.{writer_stores, reader_loads}
 use Rattle.serial_order.specs.Lists.{Among, Earlier}
 use Rattle.serial_order.proofs.Members.{earlier_right}
 use Rattle.two_timings.specs.Timing.{Timing, lands, BothWriteAt, LandApart, KeepListOrder}
@@ -16,18 +16,6 @@ use Rattle.two_timings.specs.Before.{Before, Read, ReadOld, Write, Load, LoadOld
 use Rattle.two_timings.specs.Law.{OwnTimesAgree}
 use Rattle.two_timings.proofs.Lists.{earlier_left, never_both, distinct, which_earlier}
 use Rattle.two_timings.proofs.Ordered.{keep-flip}
-
--- only a store writes memory, and only a load reads it
-pub store_writes : (o : Op) → writes o Memory ≡ true → is_store o ≡ true
-store_writes (op.Store size d s imm) h = refl
-store_writes _ h = h
-
-load_sources : (o : Op) → (sources o).memory ≡ true → is_load o ≡ true
-load_sources (op.Load size d s imm) h = refl
-load_sources _ h = h
-
-pub load_reads : (g : Guarded) → reads g Memory ≡ true → is_load g.op ≡ true
-load_reads g h = load_sources g.op h
 
 same_family-flip : (f g : Option Family) → same_family f g ≡ same_family g f
 same_family-flip None None = refl
@@ -55,14 +43,14 @@ module _ (ops : ℕ → Guarded) (t : Timing) (i j : ℕ) where
   read_before (General n) w r h = Read (General n) (λ e. cc) w r h
   read_before (Predicate n) w r h = Read (Predicate n) (λ e. cc) w r h
   read_before (Target n) w r h = Read (Target n) (λ e. cc) w r h
-  read_before Memory w r h = Load (store_writes (ops i).op w) (load_reads (ops j) r) h
+  read_before Memory w r h = Load (writer_stores (ops i).op w) (reader_loads (ops j).op r) h
 
   pub old_before :
       (x : Place) → IsTrue (reads (ops i) x) → IsTrue (writes (ops j).op x) → t.at i < lands ops t j → Before ops t i j
   old_before (General n) r w h = ReadOld (General n) (λ e. cc) r w h
   old_before (Predicate n) r w h = ReadOld (Predicate n) (λ e. cc) r w h
   old_before (Target n) r w h = ReadOld (Target n) (λ e. cc) r w h
-  old_before Memory r w h = LoadOld (load_reads (ops i) r) (store_writes (ops j).op w) h
+  old_before Memory r w h = LoadOld (reader_loads (ops i).op r) (writer_stores (ops j).op w) h
 
   pub listed_before : KeepListOrder (ops i).op (ops j).op → Earlier t.listed i j → Before ops t i j
   listed_before (inl k) e = Stores k.0 k.1 e

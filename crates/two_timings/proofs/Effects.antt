@@ -1,9 +1,8 @@
 -- What an operation's effect adds: values only where it writes, and output, input, answers and traps by its kind.
 use Rattle.timed_meaning.specs.declared.Cell.{Cell}
 use Rattle.timed_meaning.specs.declared.Cell.TheVariants.{At, Byte}
-use Rattle.std.proofs.Common.{◌≡◌, ℕ, zero, suc, ◌+◌, Bool, true, false, cond, ◌||◌, List, [], ◌∷◌, ◌++◌, ◌⊎◌, inl, inr, refl, ap, subst, ◌∙◌, Option, Some, None, eq-eqb}
+use Rattle.std.proofs.Common.{◌≡◌, ℕ, zero, suc, ◌+◌, Bool, true, false, cond, ◌||◌, List, [], ◌∷◌, ◌++◌, ◌⊎◌, inl, inr, refl, subst, ◌∙◌, Option, Some, None}
 use Rattle.std.specs.Prelude.{nat_eq, nat_lt, ◌%◌}
-use Rattle.std.proofs.lemmas.Bool.{eqb-true, or_left, or_right}
 use Rattle.operation.specs.declared.Op.{Op}
 use Rattle.operation.specs.declared.Op.TheVariants as op
 use Rattle.operation.specs.declared.Guarded.{Guarded}
@@ -21,30 +20,10 @@ use Rattle.operation.specs.declared.TrapKind.TheVariants.{OutOfRange, Misaligned
 use Rattle.operation.specs.declared.Size.{Size}
 use Rattle.operation.specs.Arithmetic.{compare, unsigned, bytes_of, wrap, quotient, remainder}
 use Rattle.operation.specs.Places.{destinations, writes, is_among, is_constant, same_place, is_load, is_inb, is_outb, is_branch, can_trap, wired, wired_on, wired_by, same_family, family}
+use Rattle.operation.proofs.PlaceLaws.{same_place_is, among_head, among_next, writes_at}
 use Rattle.operation.specs.Effects.{does, effect, written, is_compare, access, divided}
 use Rattle.timed_meaning.specs.Values.{same_cell, bit}
 use Rattle.timed_meaning.specs.Block.{act_of, to_place, to_predicate, to_predicates, bytes_at}
-
--- ---- places
-
-pub same_place_refl : (x : Place) → same_place x x ≡ true
-same_place_refl (General n) = eq-eqb n n refl
-same_place_refl (Predicate n) = eq-eqb n n refl
-same_place_refl (Target n) = eq-eqb n n refl
-same_place_refl Memory = refl
-
-same_place_is : (x y : Place) → same_place x y ≡ true → x ≡ y
-same_place_is (General a) (General b) e = ap General (eqb-true a b e)
-same_place_is (Predicate a) (Predicate b) e = ap Predicate (eqb-true a b e)
-same_place_is (Target a) (Target b) e = ap Target (eqb-true a b e)
-same_place_is Memory Memory e = refl
-same_place_is x y e = cc
-
-among_head : (x : Place) (xs : List Place) → is_among x (x ∷ xs) ≡ true
-among_head x xs = or_left (same_place x x) (is_among x xs) (same_place_refl x)
-
-among_next : (x y : Place) (xs : List Place) → is_among x xs ≡ true → is_among x (y ∷ xs) ≡ true
-among_next x y xs h = or_right (same_place x y) (is_among x xs) h
 
 -- ---- which effects an operation has
 
@@ -130,9 +109,6 @@ own_append x (v ∷ vs) ws u h =
       | true ↦ λ e. inl e
       | false ↦ λ e. own_append x vs ws u e
     ]) h
-
-writes_at : (o : Op) (x : Place) → is_constant x ≡ false → is_among x (destinations o) ≡ true → writes o x ≡ true
-writes_at o x c a = rw c a
 
 place_written :
     (o : Op) (x : Cell) (p : Place) (v u : ℕ) → is_among p (destinations o) ≡ true → own x (to_place p v) ≡ Some u →

@@ -12,6 +12,7 @@ use Rattle.operation.specs.declared.LatKind.TheVariants as lat
 use Rattle.operation.specs.declared.Place.{Place}
 use Rattle.operation.specs.declared.Place.TheVariants.{General, Predicate, Target, Memory}
 use Rattle.operation.specs.Places.{reads, writes, is_constant, are_wired_together, is_store, is_inb, is_branch, can_trap, latency_kind}
+use Rattle.operation.proofs.PlaceLaws.{read_varies, writer_stores, store_traps}
 use Rattle.timed_meaning.specs.Values.{State, entry_value, value_after, value_at, last_write, landed, written_or}
 use Rattle.timed_meaning.specs.Block.{Start, Progress, Act, answered}
 use Rattle.timed_meaning.specs.declared.Answer.TheVariants.{GoOn}
@@ -22,7 +23,6 @@ use Rattle.two_timings.specs.Law.{IsTimingOf}
 use Rattle.two_timings.proofs.Lists.{earlier_left, never_both, distinct, which_earlier, filter_earlier, filter_same}
 use Rattle.two_timings.proofs.Fronts.{onto, among_left, onto_back, front_among, front_turn, front_once, front_back, Stand, past_before, before_or_after, before_past}
 use Rattle.two_timings.proofs.Ordered.{both_trap, both_take}
-use Rattle.two_timings.proofs.Conflicts.{store_writes}
 use Rattle.two_timings.proofs.Effects.{own, place_of}
 use Rattle.two_timings.proofs.Acts.{IsActOf, act_written, act_put, act_taken, act_answer, acts_together, no_trap_no_outb}
 use Rattle.two_timings.proofs.Folds.{folded, put_out, take_in, answer_by, leave_at, folded_alike}
@@ -60,23 +60,11 @@ value_after_is s ws (At (Target n)) h = refl
 value_after_is s ws (At Memory) h = refl
 value_after_is s ws (Byte a) h = refl
 
-read_is_variable : (g : Guarded) (x : Place) → reads g x ≡ true → is_constant x ≡ false
-read_is_variable g (General zero) h = cc
-read_is_variable g (General (suc n)) h = refl
-read_is_variable g (Predicate zero) h = cc
-read_is_variable g (Predicate (suc n)) h = refl
-read_is_variable g (Target n) h = refl
-read_is_variable g Memory h = refl
-
 -- ---- stores
 
 store_latency : (o : Op) → is_store o ≡ true → latency_kind o ≡ lat.Store
 store_latency (op.Store size d s imm) h = refl
 store_latency o h = cc
-
-store_traps : (o : Op) → is_store o ≡ true → can_trap o ≡ true
-store_traps (op.Store size d s imm) h = refl
-store_traps o h = cc
 
 memory_or_not : (x : Place) → (x ≡ Memory) ⊎ (x ≢ Memory)
 memory_or_not (General n) = inr (λ e. cc)
@@ -155,7 +143,7 @@ module _ (ops : ℕ → Guarded) (order : List ℕ) (c : Start) (r : Course ops 
         first = front_turn order pre post by_order j i e
 
         stores : (k w : ℕ) → place_of x ≡ Memory → own x (r.acts k).values ≡ Some w → is_store (ops k).op ≡ true
-        stores k w m f = store_writes (ops k).op (subst (λ p. writes (ops k).op p ≡ true) m (written x k w f))
+        stores k w m f = writer_stores (ops k).op (subst (λ p. writes (ops k).op p ≡ true) m (written x k w f))
 
         store_lands : (k : ℕ) → is_store (ops k).op ≡ true → lands ops t k ≡ t.at k + t.latency lat.Store
         store_lands k s = ap (λ l. t.at k + t.latency l) (store_latency (ops k).op s)
@@ -220,7 +208,7 @@ module _ (ops : ℕ → Guarded) (order : List ℕ) (c : Start) (r : Course ops 
         (x : Cell) → reads (ops j) (place_of x) ≡ true →
         value_at c.state (done s.past).writes (t.at j) x ≡ folded (leave_at x) r.acts (entry_value c.state x) o.past
     read_is x h =
-        value_after_is c.state (landed (t.at j) (done s.past).writes) x (read_is_variable (ops j) (place_of x) h)
+        value_after_is c.state (landed (t.at j) (done s.past).writes) x (read_varies (ops j) (place_of x) h)
         ∙ ap (λ ws. written_or (entry_value c.state x) (last_write x ws)) (landed_gathered r.acts (lands ops t) (t.at j) s.past)
         ∙ settled s.past (j ∷ s.rest) o.past (j ∷ o.rest) s.split o.split (filter in_time s.past) (filter_earlier in_time s.past) x to from
       where
@@ -260,7 +248,7 @@ module _ (ops : ℕ → Guarded) (order : List ℕ) (c : Start) (r : Course ops 
         (λ k u e. (kind_before traps kept_traps h k (leaves_traps k u e)).1)
       where
         leaves_traps : (k u : ℕ) → own (Byte a) (r.acts k).values ≡ Some u → traps k ≡ true
-        leaves_traps k u e = store_traps (ops k).op (store_writes (ops k).op (written (Byte a) k u e))
+        leaves_traps k u e = store_traps (ops k).op (writer_stores (ops k).op (written (Byte a) k u e))
 
   -- ---- at the end
 
