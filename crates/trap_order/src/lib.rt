@@ -5,31 +5,13 @@
 #![tactic(auto)]
 
 ghost use Rattle.std.specs.Prelude.{◌≡◌};
-ghost use Rattle.operation.specs.Places.{can_trap, is_inb};
 ghost use Rattle.trap_order.specs.Order.{keep_issue_order};
 ghost use Rattle.trap_order.specs.Laws.{EitherWayRound};
 
-use operation::Op;
+use operation::{Op, can_trap, is_inb};
 
 #[cfg(test)]
 mod tests;
-
-/// Whether the operation can trap when it issues.
-fn can_trap(op: &Op) -> bool
-    ensures { result ≡ can_trap op.now }
-{
-    matches!(
-        op,
-        Op::Div(..) | Op::Rem(..) | Op::Load(..) | Op::Store(..) | Op::Outb(_)
-    )
-}
-
-/// Whether the operation takes a byte of the input.
-fn is_inb(op: &Op) -> bool
-    ensures { result ≡ is_inb op.now }
-{
-    matches!(op, Op::Inb(_))
-}
 
 /// Whether two operations of a block issue in the order in which they are listed: both can trap, or both are `inb`.
 ///
