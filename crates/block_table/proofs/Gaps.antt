@@ -8,7 +8,7 @@ use Rattle.std.proofs.lemmas.List.{get_or_default}
 use Rattle.std.proofs.lemmas.List.Folds.{list_any_none, list_any-from_Any}
 use Rattle.block_table.specs.Rows.{Rows, entry_of, count_of, end_of, end_before, IsRising}
 use Rattle.block_table.specs.Padding.{is_in_block, is_unpadded, first_unpadded, AreZero, IsFirstFilled}
-use Rattle.block_table.proofs.Search.{find-none, find-some}
+use Rattle.tnk_base.proofs.Searches.{finds_none, finds_some}
 
 second_false : (x y : Bool) → y ≡ false → (x && y) ≡ false
 second_false true y e = e
@@ -81,7 +81,7 @@ pub found_here : (rows : Rows) (words : List ℕ) → IsRising rows → (k end t
     ((a : ℕ) → a < end → is_unpadded rows words a ≡ false) → result ≡ first_unpadded rows words
 found_here rows words rise k end top None first some there at gap clear = absurd (let k : ⊥ = cc in k)
 found_here rows words rise k end top (Some a) first some there at gap clear =
-    sym (find-some (is_unpadded rows words) (length words) a first.there
+    sym (finds_some (is_unpadded rows words) (length words) a first.there
     (λ j lt. elim (cases_lt j end) [
       | inl before ↦ clear j before
       | inr behind ↦ padded_zero rows words j (first.zeros j behind lt)
@@ -93,7 +93,7 @@ pub found_last : (rows : Rows) (words : List ℕ) → IsRising rows → (k end :
     IfSome result (IsFirstFilled words end (length words)) → k ≡ length rows → end ≡ end_before rows k →
     ((a : ℕ) → a < end → is_unpadded rows words a ≡ false) → result ≡ first_unpadded rows words
 found_last rows words rise k end None zeros first all at clear =
-    sym (find-none (is_unpadded rows words) (length words) (λ j lt. elim (cases_lt j end) [
+    sym (finds_none (is_unpadded rows words) (length words) (λ j lt. elim (cases_lt j end) [
       | inl before ↦ clear j before
       | inr behind ↦ padded_zero rows words j (zeros j behind lt)
     ]))

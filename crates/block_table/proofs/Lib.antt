@@ -1,4 +1,3 @@
-pub mod Search
 pub mod Finding
 pub mod Rising
 pub mod Gaps

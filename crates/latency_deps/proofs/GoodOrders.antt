@@ -6,7 +6,7 @@ use Rattle.std.proofs.lemmas.Bool.{cases_eq, cases_lt, or_parts, and_cases, both
 use Rattle.std.proofs.lemmas.List.FromFn.{get_or-map-range_with_len}
 use Rattle.operation.specs.declared.Guarded.{Guarded}
 use Rattle.operation.specs.declared.Place.{Place}
-use Rattle.block_table.proofs.Search.{find-none}
+use Rattle.tnk_base.proofs.Searches.{finds_none}
 use Rattle.list_encoding.specs.Reading.{halt}
 use Rattle.timed_meaning.specs.declared.TimedOp.{TimedOp}
 use Rattle.serial_order.specs.SerialOrder.{IsOrder, first_stuck}
@@ -85,7 +85,7 @@ module _ (b : Block) (good : IsGood b) where
   one_branch i j inside below_n u v = elim (cases_eq i j) [
     | inl e ↦ e
     | inr ne ↦
-        let one = find-none (breaks_second_branch ops) n (kept rule.SecondBranch) in
+        let one = finds_none (breaks_second_branch ops) n (kept rule.SecondBranch) in
         absurd (both_ways (is_branch_at ops i) (no_other ops n one j i below_n v inside ne) u)
   ]
 

@@ -3,7 +3,7 @@ use Rattle.std.proofs.Common.{◌≡◌, ℕ, ◌+◌, ◌<◌, ◌≤◌, false
 use Rattle.std.specs.Prelude.{is_some}
 use Rattle.std.proofs.lemmas.Bool.{cases_lt}
 use Rattle.std.proofs.lemmas.List.{get_or_append_left, get_or_push}
-use Rattle.block_table.proofs.Search.{find-none, find-some}
+use Rattle.tnk_base.proofs.Searches.{finds_none, finds_some}
 use Rattle.list_encoding.specs.declared.Coded.{Coded}
 use Rattle.list_encoding.specs.Word.{HasReading}
 use Rattle.list_encoding.specs.Reading.{guarded_in, halt}
@@ -45,11 +45,11 @@ kept_so_far : (words : List ℕ) (n : ℕ) (readings : List Coded) → ReadSoFar
 kept_so_far words n readings h j below = keeps_opcode words j (get_or readings j none_read) (h.each j none_read below)
 
 pub all_read : (words : List ℕ) (readings : List Coded) → ReadSoFar words (length words) readings → least_of (breaks_opcode words) words ≡ None
-all_read words readings h = find-none (breaks_opcode words) (length words) (kept_so_far words (length words) readings h)
+all_read words readings h = finds_none (breaks_opcode words) (length words) (kept_so_far words (length words) readings h)
 
 -- the first word without a reading breaks it
 pub stopped_at :
     (words : List ℕ) (n : ℕ) (readings : List Coded) → ReadSoFar words n readings → n < length words → guarded_in (get_or words n 0) ≡ None →
     least_of (breaks_opcode words) words ≡ Some n
 stopped_at words n readings h below none =
-    find-some (breaks_opcode words) (length words) n below (kept_so_far words n readings h) (ap (λ o. not (is_some o)) none)
+    finds_some (breaks_opcode words) (length words) n below (kept_so_far words n readings h) (ap (λ o. not (is_some o)) none)

@@ -8,7 +8,7 @@ use Rattle.operation.specs.Places.{reads, destinations}
 use Rattle.two_timings.specs.Timing.{Timing, lands}
 use Rattle.latency_deps.specs.Tests.{below, is_branch_at, breaks_second_branch, shadows, breaks_branch_shadow}
 use Rattle.latency_deps.proofs.Search.{none_at, none_any, any_one, any_none}
-use Rattle.block_table.proofs.Search.{find-none}
+use Rattle.tnk_base.proofs.Searches.{finds_none}
 
 module _ (ops : ℕ → Guarded) (n : ℕ) (one : find (breaks_second_branch ops) (range_with_len 0 n) ≡ None) where
   no_later : (i j : ℕ) → i < j → j < n → is_branch_at ops i ≡ true → is_branch_at ops j ≡ true → ⊥
@@ -33,6 +33,6 @@ module _ (ops : ℕ → Guarded) (n : ℕ) (one : find (breaks_second_branch ops
 
 -- where there is no branch, nothing is in its shadow
 pub no_shadow : (ops : ℕ → Guarded) (t : Timing) (n : ℕ) → find (is_branch_at ops) (range_with_len 0 n) ≡ None → find (breaks_branch_shadow ops t n) (range_with_len 0 n) ≡ None
-no_shadow ops t n none = find-none (breaks_branch_shadow ops t n) n (λ k h.
+no_shadow ops t n none = finds_none (breaks_branch_shadow ops t n) n (λ k h.
     and_right (not (is_branch_at ops k)) (list_any (shadows ops t k) (below n)) (any_none (shadows ops t k) n (λ j l.
     and_left (is_branch_at ops j) (list_any (reads (ops j)) (destinations (ops k).op) && nat_lt (t.at j) (lands ops t k)) (none_at (is_branch_at ops) n j none l))))

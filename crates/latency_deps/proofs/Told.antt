@@ -1,7 +1,7 @@
 -- Which rules are kept where none is broken, or where one is told.
 use Rattle.std.proofs.Common.{◌≡◌, ℕ, zero, suc, ◌<◌, Option, Some, None, List, [], ◌∷◌, ◌++◌, length, get_or, refl, sym, ap, ◌∙◌, lit<, arith}
 use Rattle.std.specs.Prelude.{All}
-use Rattle.block_table.proofs.Search.{find-none}
+use Rattle.tnk_base.proofs.Searches.{finds_none}
 use Rattle.latency_deps.specs.declared.rules.BlockRule.{BlockRule}
 use Rattle.latency_deps.specs.declared.rules.BlockRule.TheVariants as rule
 use Rattle.latency_deps.specs.Rules.{breaks, rules, least_breaking, first_among}
@@ -84,7 +84,7 @@ split least (s ∷ rs) r k e = go (least s) refl e (λ rest. split least rs r k 
 pub none_broken : NoneBroken
 none_broken g rows words = (
   λ e r k below. none_at (breaks g rows words r) (length words) k (each (least_breaking g rows words) e r) below,
-  λ h. all_none (least_breaking g rows words) rules (λ r. find-none (breaks g rows words r) (length words) (h r)),
+  λ h. all_none (least_breaking g rows words) rules (λ r. finds_none (breaks g rows words r) (length words) (h r)),
 )
 
 pub told_first : ToldFirst

@@ -1,2 +1,3 @@
 -- lemmas
 pub mod ReadWritten
+pub mod Searches

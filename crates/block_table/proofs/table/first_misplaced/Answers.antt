@@ -2,7 +2,7 @@ use Rattle.std.proofs.Common.{◌≡◌, ℕ, ◌*◌, ◌||◌, ap, sym, ◌∙
 use Rattle.std.specs.Prelude.{nat_eq, nat_lt, nat_le}
 use Rattle.block_table.specs.Rows.{Rows, entry_of, count_of}
 use Rattle.block_table.specs.Rules.{breaks_table}
-use Rattle.block_table.proofs.Search.{find-none, find-some}
+use Rattle.tnk_base.proofs.Searches.{finds_none, finds_some}
 use Rattle.block_table.proofs.Rising.{kept, end_before-next, rising}
 use Rattle.block_table.proofs.table.first_misplaced.Goals as goal
 
@@ -13,7 +13,7 @@ breaks rows pages k end = nat_eq (count_of rows k) 0 || (nat_le (pages * 512) (e
 pub returns-then-is_misplaced-clause-first : goal.returns-then-is_misplaced-clause-first
 returns-then-is_misplaced-clause-first c =
     let rows = c.args.rows.now in
-    sym (find-some (breaks_table rows c.args.pages) (length rows) c.loop-k.k c.loop-k-test.true c.loop-k.invariant.kept
+    sym (finds_some (breaks_table rows c.args.pages) (length rows) c.loop-k.k c.loop-k-test.true c.loop-k.invariant.kept
     (sym (c.if-is_misplaced.ensures ∙ ap (breaks rows c.args.pages c.loop-k.k) c.loop-k.invariant.end)))
 
 pub loop-k-preserved : goal.loop-k-preserved
@@ -30,7 +30,7 @@ loop-k-preserved c =
     }
 
 pub returns-clause-first : goal.returns-clause-first
-returns-clause-first c = sym (find-none (breaks_table c.args.rows.now c.args.pages) (length c.args.rows.now) (λ j below. c.loop-k.invariant.kept j (omega arith)))
+returns-clause-first c = sym (finds_none (breaks_table c.args.rows.now c.args.pages) (length c.args.rows.now) (λ j below. c.loop-k.invariant.kept j (omega arith)))
 
 pub returns-clause-rising : goal.returns-clause-rising
 returns-clause-rising c =
