@@ -500,7 +500,10 @@ fn accepted_images(rt: HostRuntime) -> Result<(), Fail> {
         let bytes = file(&rt, alloc, numbers, entry, rows, placed)?;
         assert_eq!(rt; fault(alloc, &bytes), None, "{rows:?}");
     }
-    programs_are_sound();
+    laws::programs_are_sound();
+    laws::blocks_keep_the_rules();
+    laws::blocks_have_orders();
+    laws::programs_in_other_timings();
     Ok(())
 }
 
