@@ -1,4 +1,4 @@
--- Numbers are in their ranges exactly where they are those of a description.
+-- Numbers are in their ranges exactly where they are those of a description. It stands here since `Mdes`, as a `Generation`, cites it.
 use Rattle.std.specs.Prelude.{◌≡◌, ℕ, zero, suc, ◌≤◌, ◌<◌, List, [], ◌∷◌, length, Bool, true, ◌&&◌, refl, IsTrue, slice_index, nat_le, nat_eq}
 use Rattle.std.specs.List.{list_all}
 use Rattle.std.proofs.Common.{sym, ◌∙◌, arith, lit<}
