@@ -1,6 +1,6 @@
 -- The nodes of a block's operations, and the table of their delays.
 use Rattle.std.proofs.Common.{◌≡◌, ℕ, ◌+◌, ◌<◌, ◌≤◌, Bool, true, false, cond, ◌⊎◌, inl, inr, List, length, sym, ap, subst, ◌∙◌, Option, Some, None, arith}
-use Rattle.std.specs.Prelude.{map, is_some, IfSome, ℤ, pos, negsuc, ◌≤ℤ◌}
+use Rattle.std.specs.Prelude.{is_some, IfSome, ℤ, pos, negsuc, ◌≤ℤ◌}
 use Rattle.std.proofs.lemmas.Bool.{cases_lt}
 use Rattle.std.proofs.lemmas.List.{length-map, get_or-map}
 use Rattle.machine_desc.specs.Description.{Description, IsDescription}
@@ -16,7 +16,7 @@ use Rattle.latency_deps.specs.declared.graph.Node.{Node}
 use Rattle.latency_deps.specs.Before.{comes_before, delay_between, applying, greatest}
 use Rattle.latency_deps.specs.Block.{Block, IsGood, timed_at, block_with}
 use Rattle.latency_deps.specs.Delays.{before_in, delay_in, IsDelayTable}
-use Rattle.latency_deps.specs.Graph.{node, node_at, op_at, delay_of_nodes, AreShort, AreDelays}
+use Rattle.latency_deps.specs.Graph.{node, node_at, op_at, delay_of_nodes, AreNodes, AreShort, AreDelays}
 use Rattle.latency_deps.proofs.Nodes.{delay_law, delay_there, greatest_short, IsShort}
 use Rattle.latency_deps.proofs.GoodOrders.{none_stuck}
 use Rattle.latency_deps.proofs.BranchLast.{branch_last}
@@ -84,31 +84,43 @@ more_rows nodes n m d new r count row others = record {
         let size = r.count in
         subst (λ (k : ℕ). delay_of new k j ≡ delay_of_nodes k j (node_at nodes k) (node_at nodes j)) same (row j (omega arith))
 
+-- all rows are the table
+pub all_rows : (nodes : List Node) (d : Table) → RowsTo nodes (length nodes) (length nodes) d → AreDelays nodes d
+all_rows nodes d r = record { count = r.count; each = r.here }
+
+pub as_many_nodes : (latency : LatKind → ℕ) (ops : List WordOp) (nodes : List Node) → AreNodes latency ops nodes → length nodes ≡ length ops
+as_many_nodes latency ops nodes e = ap length e ∙ length-map ops (λ (o : WordOp). node latency o.timed)
+
 -- the nodes are those of the operations
 pub node_is :
-    (latency : LatKind → ℕ) (ops : List WordOp) (nodes : List Node) (i : ℕ) → nodes ≡ map (λ (o : WordOp). node latency o.timed) ops → i < length ops →
+    (latency : LatKind → ℕ) (ops : List WordOp) (nodes : List Node) (i : ℕ) → AreNodes latency ops nodes → i < length ops →
     node_at nodes i ≡ node latency (op_at ops i)
 node_is latency ops nodes i e inside =
     ap (λ (l : List Node). node_at l i) e
     ∙ get_or-map (λ (o : WordOp). node latency o.timed) ops i (record { word = 0; timed = record { guarded = halt; at = 0; latency = 1 } }) _ inside
 
--- so their table is that of the operations
-pub all_rows :
-    (latency : LatKind → ℕ) (ops : List WordOp) (nodes : List Node) (d : Table) → nodes ≡ map (λ (o : WordOp). node latency o.timed) ops →
-    RowsTo nodes (length ops) (length ops) d → AreDelays latency ops d
-all_rows latency ops nodes d e r = record {
-  count = r.count;
+-- the delays between operations under a generation's latencies
+pub record AreOpDelays (latency : LatKind → ℕ) (ops : List WordOp) (d : Table) : Type 0 where
+  pub count : d.count ≡ length ops
+  pub each : (i j : ℕ) → i < length ops → j < length ops → delay_of d i j ≡ delay_between latency i j (op_at ops i) (op_at ops j)
+
+-- so the delays between the nodes are those between the operations
+pub op_delays :
+    (latency : LatKind → ℕ) (ops : List WordOp) (nodes : List Node) (d : Table) → AreNodes latency ops nodes → AreDelays nodes d → AreOpDelays latency ops d
+op_delays latency ops nodes d e are = record {
+  count = are.count ∙ as_many_nodes latency ops nodes e;
   each = λ i j inside below.
-      r.here i j inside below
+      let size = as_many_nodes latency ops nodes e in
+      are.each i j (omega arith) (omega arith)
       ∙ ap (λ (a : Node). delay_of_nodes i j a (node_at nodes j)) (node_is latency ops nodes i e inside)
       ∙ ap (λ (b : Node). delay_of_nodes i j (node latency (op_at ops i)) b) (node_is latency ops nodes j e below)
       ∙ delay_law latency i j (op_at ops i) (op_at ops j);
 }
 
 pub short_nodes :
-    (g : Description) (ops : List WordOp) (nodes : List Node) → IsDescription g → nodes ≡ map (λ (o : WordOp). node g.latency o.timed) ops → AreShort nodes
+    (g : Description) (ops : List WordOp) (nodes : List Node) → IsDescription g → AreNodes g.latency ops nodes → AreShort nodes
 short_nodes g ops nodes ok e i inside =
-    let inside_ops : i < length ops = omega (arith, ap length e, length-map ops (λ (o : WordOp). node g.latency o.timed)) in
+    let inside_ops : i < length ops = omega (arith, as_many_nodes g.latency ops nodes e) in
     let kind = latency_kind (op_at ops i).guarded.op in
     let high = (ok.latency kind).1 in
     let same = ap (λ (a : Node). a.latency) (node_is g.latency ops nodes i e inside_ops) in
@@ -120,7 +132,7 @@ op_timed ops end i inside =
     sym (get_or-map (λ (o : WordOp). o.timed) ops i (record { word = 0; timed = record { guarded = halt; at = 0; latency = 1 } }) (record { guarded = halt; at = 0; latency = 0 }) inside)
 
 -- the table of a good block's operations is one of its delays
-module _ (g : Description) (ok : IsDescription g) (ops : List WordOp) (end : ℕ) (good : IsGood (block_with ops end)) (d : Table) (are : AreDelays g.latency ops d) where
+module _ (g : Description) (ok : IsDescription g) (ops : List WordOp) (end : ℕ) (good : IsGood (block_with ops end)) (d : Table) (are : AreOpDelays g.latency ops d) where
   abbrev b : Block
   b = block_with ops end
 

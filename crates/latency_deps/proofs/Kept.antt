@@ -5,7 +5,7 @@ use Rattle.std.specs.List.{range_with_len}
 use Rattle.std.proofs.lemmas.Simd.{map-map}
 use Rattle.std.proofs.lemmas.List.FromFn.{fill_by_all}
 use Rattle.machine_desc.specs.declared.Mdes.{Mdes}
-use Rattle.machine_desc.specs.Description.{Description}
+use Rattle.machine_desc.specs.Description.{Description, IsDescription}
 use Rattle.machine_desc.specs.Value.{description_of}
 use Rattle.machine_desc.specs.Ranges.{in_description}
 use Rattle.block_table.specs.Rows.{Rows}
@@ -95,6 +95,10 @@ built g words ops end h =
     (ap (map time) h.each ∙ map-map time (word_op g words) numbers)
     h.last
 
+-- the numbers of a description are in their ranges
+pub described : (m : Mdes) → IsDescription (description_of m)
+described m = in_description m.width m.units m.latency m.in_range
+
 -- it is good where the words keep the rules
 pub made_good :
     (m : Mdes) (rows : Rows) (words : List ℕ) (ops : List WordOp) (end : ℕ) → AreTimed (description_of m) words ops end →
@@ -103,7 +107,7 @@ made_good m rows words ops end h kept = subst IsGood (sym (built (description_of
   some = h.some;
   few = h.few;
   description = description_of m;
-  in_range = in_description m.width m.units m.latency m.in_range;
+  in_range = described m;
   rows = rows;
   kept = kept;
   built = refl;

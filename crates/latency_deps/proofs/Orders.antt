@@ -21,12 +21,12 @@ use Rattle.latency_deps.specs.Timing.{ops_of, own_timing}
 use Rattle.latency_deps.specs.Before.{comes_before, before_by, lands_at}
 use Rattle.latency_deps.specs.Rules.{least_breaking, first_among, first_broken, order_fault, IsBlockFault}
 use Rattle.latency_deps.specs.Candidate.{AreTimed}
-use Rattle.latency_deps.specs.Graph.{op_at, LandInTime, AreDelays}
+use Rattle.latency_deps.specs.Graph.{op_at, LandInTime}
 use Rattle.latency_deps.specs.Block.{IsGood, block_with}
 use Rattle.latency_deps.proofs.Items
 use Rattle.latency_deps.proofs.Nodes.{delay_there}
 use Rattle.latency_deps.proofs.GoodOrders.{timed_is}
-use Rattle.latency_deps.proofs.Graphs.{op_timed}
+use Rattle.latency_deps.proofs.Graphs.{AreOpDelays, op_timed}
 
 -- what lands in a block lands in a cycle that is a number of the code's
 pub lands_in_time :
@@ -50,7 +50,7 @@ module _ (g : Description) (words : List ℕ) (ops : List WordOp) (end : ℕ) (h
       let same = ap lands_at (op_is i inside_words) in
       omega arith
 
-  module _ (d : Table) (are : AreDelays g.latency ops d) where
+  module _ (d : Table) (are : AreOpDelays g.latency ops d) where
     there : (i j : ℕ) → i < length words → j < length words → before d i j ≡ before_by (ops_of words) (own_timing g words) i j
     there i j inside below =
         let size = Items.length_ops g words ops end h in

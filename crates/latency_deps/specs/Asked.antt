@@ -6,11 +6,13 @@ use Rattle.machine_desc.specs.Value.{description_of}
 use Rattle.latency_deps.specs.declared.rules.BlockRule.{BlockRule}
 use Rattle.latency_deps.specs.declared.rules.BlockRule.TheVariants as rule
 use Rattle.latency_deps.specs.declared.candidate.Candidate.{Candidate}
-use Rattle.two_timings.specs.Timing.{Timing}
+use Rattle.latency_deps.specs.declared.graph.Node.{Node}
+use Rattle.two_timings.specs.Timing.{Timing, timed}
 use Rattle.latency_deps.specs.Timing.{ops_of, own_timing}
 use Rattle.latency_deps.specs.Issue.{same_unit}
 use Rattle.latency_deps.specs.Tests.{unit_of}
 use Rattle.latency_deps.specs.Rules.{breaks}
+use Rattle.latency_deps.specs.Graph.{node}
 
 -- the operations of a candidate by number, and their times
 abbrev pub ops_in : Candidate → ℕ → Guarded
@@ -18,6 +20,10 @@ ops_in c = ops_of c.words.now
 
 abbrev pub timing_in : Candidate → Timing
 timing_in c = own_timing (description_of c.description.now) c.words.now
+
+-- a candidate's operation as a node, under its own description
+abbrev pub node_in : Candidate → ℕ → Node
+node_in c k = node (description_of c.description.now).latency (timed (ops_in c) (timing_in c) k)
 
 -- i issues with k, and needs a unit of the same kind
 abbrev pub shares_units : Candidate → (k i : ℕ) → Bool

@@ -1,5 +1,5 @@
 -- The operations of a block two by two, by what is computed once for each.
-use Rattle.std.specs.Prelude.{ℕ, ◌≡◌, ◌≤◌, ◌<◌, ◌^◌, Bool, not, ◌&&◌, ◌||◌, if◌then◌else◌, nat_eq, nat_lt, nat_le, List, length, slice_index_or, Option, Some, None, ℤ, pos, negsuc, ◌+ℤ◌, ◌-ℤ◌}
+use Rattle.std.specs.Prelude.{ℕ, ◌≡◌, ◌≤◌, ◌<◌, ◌^◌, Bool, not, ◌&&◌, ◌||◌, if◌then◌else◌, nat_eq, nat_lt, nat_le, List, length, map, slice_index_or, Option, Some, None, ℤ, pos, negsuc, ◌+ℤ◌, ◌-ℤ◌}
 use Rattle.std.specs.Int.{int_max}
 use Rattle.operation.specs.declared.LatKind.{LatKind}
 use Rattle.operation.specs.Places.{latency_kind}
@@ -10,7 +10,7 @@ use Rattle.serial_order.specs.Table.{Table, delay_of}
 use Rattle.latency_deps.specs.declared.block.WordOp.{WordOp}
 use Rattle.latency_deps.specs.declared.graph.Node.{Node}
 use Rattle.latency_deps.specs.declared.graph.Meeting.{Meeting}
-use Rattle.latency_deps.specs.Before.{lands_at, delay_between}
+use Rattle.latency_deps.specs.Before.{lands_at}
 use Rattle.latency_deps.specs.Footprint.{footprint, are_strangers, is_fed, write_both}
 
 -- an operation as a node
@@ -77,11 +77,15 @@ op_at ops i = (slice_index_or ops i (record { word = 0; timed = record { guarded
 abbrev pub LandInTime : List WordOp → Type 0
 LandInTime ops = (i : ℕ) → i < length ops → lands_at (op_at ops i) < 2 ^ 32
 
+-- the nodes of operations, in their order
+abbrev pub AreNodes : (LatKind → ℕ) → List WordOp → List Node → Type 0
+AreNodes latency ops nodes = nodes ≡ map (λ o. node latency o.timed) ops
+
 -- each latency is at most 32
 abbrev pub AreShort : List Node → Type 0
 AreShort nodes = (i : ℕ) → i < length nodes → (node_at nodes i).latency ≤ 32
 
--- the delays between operations under a generation's latencies
-pub record AreDelays (latency : LatKind → ℕ) (ops : List WordOp) (d : Table) : Type 0 where
-  pub count : d.count ≡ length ops
-  pub each : (i j : ℕ) → i < length ops → j < length ops → delay_of d i j ≡ delay_between latency i j (op_at ops i) (op_at ops j)
+-- the delays between nodes
+pub record AreDelays (nodes : List Node) (d : Table) : Type 0 where
+  pub count : d.count ≡ length nodes
+  pub each : (i j : ℕ) → i < length nodes → j < length nodes → delay_of d i j ≡ delay_of_nodes i j (node_at nodes i) (node_at nodes j)

@@ -1,14 +1,16 @@
 // Words with their operations and times. Each rule has a method that answers the least operation that breaks it.
+ghost use Rattle.std.specs.Prelude.{◌≡◌};
 ghost use Rattle.machine_desc.specs.Value.{description_of};
+ghost use Rattle.latency_deps.specs.Tests.{prepares_elsewhere as prepares_no_entry, is_at_odds as has_odds};
 ghost use Rattle.latency_deps.specs.Candidate.{AreTimed};
+ghost use Rattle.latency_deps.specs.Graph.{AreNodes};
 
 use super::block::WordOp;
-use super::places::{both_write, is_at_odds, prepares_elsewhere, reads_from};
+use super::graph::Node;
 use super::rules::BlockRule;
 use block_table::Table;
 use machine_desc::{Generation, Mdes};
-use operation::{Op, UnitKind, is_branch, unit};
-use timed_meaning::TimedOp;
+use operation::{Op, UnitKind, is_branch, unit, wired};
 
 /// Words with a reading and a time each, which are a block if they keep the other rules under a description and among
 /// the rows of a table.
@@ -18,18 +20,44 @@ pub(crate) struct Candidate<'a> {
     pub(crate) description: &'a Mdes,
     pub(crate) table: &'a Table,
     pub(crate) ops: Vec<WordOp>,
+    /// The operations as the nodes of their dependence graph, under the description's latencies.
+    pub(crate) nodes: Vec<Node>,
     pub(crate) end: u32,
     ghost timed: { AreTimed (description_of description.now) words.now ops.items end },
+    ghost as_nodes: { AreNodes (description_of description.now).latency ops.items nodes.items },
+}
+
+/// Whether an operation prepares a branch to an address that is no entry.
+fn prepares_elsewhere(op: &Op, table: &Table) -> bool
+    ensures { result ≡ prepares_no_entry table.now op.now }
+{
+    match *op {
+        Op::Pbr(_, address) => table.block_of(address).is_none(),
+        _ => false,
+    }
+}
+
+/// Whether a compare's destinations are one predicate, and not of one wired family.
+fn is_at_odds(op: &Op) -> bool
+    ensures { result ≡ has_odds op.now }
+{
+    match op {
+        Op::Cmp(_, a, b, _, _) | Op::CmpImm(_, a, b, _, _) => {
+            a.p == b.p && a.p != 0 && wired(op, a.p).is_none()
+        }
+        _ => false,
+    }
 }
 
 impl Candidate<'_> {
-    ghost use Rattle.std.specs.Prelude.{◌≡◌, ◌<◌, length, true, None, find, count_by};
+    ghost use Rattle.std.specs.Prelude.{◌<◌, length, true, None, find, count_by};
     ghost use Rattle.std.specs.List.{range_with_len, list_any};
     ghost use Rattle.latency_deps.specs.declared.rules.BlockRule.TheVariants as rule;
-    ghost use Rattle.two_timings.specs.Timing.{timed as timed_by, lands as lands_by};
-    ghost use Rattle.latency_deps.specs.Tests.{below, unit_of, is_branch_at, shadows as is_shadowing, lands_with as lands_together};
+    ghost use Rattle.two_timings.specs.Timing.{lands as lands_by};
+    ghost use Rattle.latency_deps.specs.Tests.{below, unit_of, is_branch_at, shadows as is_shadowing, both_write as write_both, lands_with as lands_together};
+    ghost use Rattle.latency_deps.specs.Before.{feeds as is_fed};
     ghost use Rattle.latency_deps.specs.Rules.{first_among};
-    ghost use Rattle.latency_deps.specs.Asked.{ops_in, timing_in, shares_units as share_units, last_up_to, breaks_in, least_in, rules_on_times};
+    ghost use Rattle.latency_deps.specs.Asked.{ops_in, timing_in, node_in, shares_units as share_units, last_up_to, breaks_in, least_in, rules_on_times};
 
     fn count(&self) -> u16
         ensures { result ≡ length self.now.words.now }
@@ -37,25 +65,25 @@ impl Candidate<'_> {
         self.words.len() as u16
     }
 
-    fn timed(&self, k: u16) -> &TimedOp
+    fn node(&self, k: u16) -> &Node
         requires { k < length self.now.words.now }
-        ensures { result.now ≡ timed_by (ops_in self.now) (timing_in self.now) k }
+        ensures { result.now ≡ node_in self.now k }
     {
-        &self.ops[k as usize].timed
+        &self.nodes[k as usize]
     }
 
     fn op(&self, k: u16) -> &Op
         requires { k < length self.now.words.now }
         ensures { result.now ≡ (ops_in self.now k).op }
     {
-        &self.timed(k).guarded.op
+        &self.node(k).op
     }
 
     fn at(&self, k: u16) -> u32
         requires { k < length self.now.words.now }
         ensures { result ≡ (timing_in self.now).at k }
     {
-        self.timed(k).at
+        self.node(k).at
     }
 
     /// The cycle in which an operation's writes land.
@@ -63,8 +91,25 @@ impl Candidate<'_> {
         requires { k < length self.now.words.now }
         ensures { result ≡ lands_by (ops_in self.now) (timing_in self.now) k }
     {
-        let timed = self.timed(k);
-        timed.at + timed.latency as u32
+        self.node(k).lands
+    }
+
+    /// Whether the operation i writes a place that k reads.
+    fn feeds(&self, i: u16, k: u16) -> bool
+        requires i { i < length self.now.words.now }
+        requires k { k < length self.now.words.now }
+        ensures { result ≡ is_fed (ops_in self.now i) (ops_in self.now k) }
+    {
+        self.node(i).footprint.feeds(&self.node(k).footprint)
+    }
+
+    /// Whether the operations i and k write one register, predicate or target, and not as one wired family there.
+    fn both_write(&self, i: u16, k: u16) -> bool
+        requires i { i < length self.now.words.now }
+        requires k { k < length self.now.words.now }
+        ensures { result ≡ write_both (ops_in self.now i).op (ops_in self.now k).op }
+    {
+        self.node(i).footprint.clashes(&self.node(k).footprint)
     }
 
     fn unit(&self, k: u16) -> UnitKind
@@ -213,7 +258,7 @@ impl Candidate<'_> {
         requires k { k < length self.now.words.now }
         ensures { result ≡ is_shadowing (ops_in self.now) (timing_in self.now) k branch }
     {
-        reads_from(&self.timed(branch).guarded, self.op(k)) && self.at(branch) < self.lands(k)
+        self.feeds(k, branch) && self.at(branch) < self.lands(k)
     }
 
     #[tactic(auto, unfolding(crate::specs::Asked::breaks_in))]
@@ -253,7 +298,7 @@ impl Candidate<'_> {
         requires i { i < length self.now.words.now }
         ensures { result ≡ lands_together (ops_in self.now) (timing_in self.now) k i }
     {
-        self.lands(i) == self.lands(k) && both_write(self.op(i), self.op(k))
+        self.lands(i) == self.lands(k) && self.both_write(i, k)
     }
 
     fn clashes_with_earlier(&self, k: u16) -> bool

@@ -1,10 +1,10 @@
 // The dependence graph of a block: which operation comes before which, and by how many cycles.
-ghost use Rattle.std.specs.Prelude.{◌≡◌, ◌≤◌, ◌<◌, ◌^◌, ℕ, length, map, None, IfOk, IfSome};
+ghost use Rattle.std.specs.Prelude.{◌≡◌, ◌≤◌, ◌<◌, ◌^◌, ℕ, length, None, IfOk, IfSome};
 ghost use Rattle.machine_desc.specs.Description.{Description};
 ghost use Rattle.serial_order.specs.Table.{delay_of};
 ghost use Rattle.latency_deps.specs.Before.{lands_at};
 ghost use Rattle.latency_deps.specs.Delays.{IsDelayTable};
-ghost use Rattle.latency_deps.specs.Graph.{node, meeting, before_by_times as is_before_by_times, is_before as is_first, at_least as is_at_least, greatest_of, delay_of_nodes, node_at, LandInTime, AreShort, AreDelays};
+ghost use Rattle.latency_deps.specs.Graph.{node, meeting, before_by_times as is_before_by_times, is_before as is_first, at_least as is_at_least, greatest_of, delay_of_nodes, node_at, LandInTime, AreNodes, AreShort, AreDelays};
 
 use super::block::{GoodBlock, WordOp};
 use super::footprint::Footprint;
@@ -19,11 +19,11 @@ use trap_order::ordered;
 /// An operation, and what decides when it comes before another.
 #[derive(Clone, Copy)]
 pub(crate) struct Node {
-    op: Op,
-    footprint: Footprint,
+    pub(crate) op: Op,
+    pub(crate) footprint: Footprint,
     /// The cycle in which it issues, and that in which its writes land, by the block's own times.
-    at: u32,
-    lands: u32,
+    pub(crate) at: u32,
+    pub(crate) lands: u32,
     /// Its latency under the generation that the delays are for, 1 to 32.
     latency: u8,
 }
@@ -56,9 +56,14 @@ fn node_of<G: Generation>(timed: &TimedOp, g: &G) -> Node
     }
 }
 
-fn nodes<G: Generation>(alloc: Global, ops: &[WordOp], g: &G) -> Result<Vec<Node>, AllocError>
+/// The operations of a block as nodes, under the latencies of a generation.
+pub(crate) fn nodes<G: Generation>(
+    alloc: Global,
+    ops: &[WordOp],
+    g: &G,
+) -> Result<Vec<Node>, AllocError>
     requires { LandInTime ops.now }
-    ensures { IfOk result (λ nodes. nodes.items ≡ map (λ o. node (G.description g.now).latency o.timed) ops.now) }
+    ensures { IfOk result (λ nodes. AreNodes (G.description g.now).latency ops.now nodes.items) }
 {
     let mut nodes = Vec::with_capacity(alloc, ops.len())?;
     for op in ops {
@@ -154,20 +159,15 @@ fn fill_row(d: &mut Delays, nodes: &[Node], i: u16)
     }
 }
 
-/// The delays between the operations of a block, under the latencies of a generation.
-pub(crate) fn delays_of<G: Generation>(
-    alloc: Global,
-    ops: &[WordOp],
-    g: &G,
-) -> Result<Delays, NoMemory>
-    requires few { length ops.now ≤ 512 }
-    requires time { LandInTime ops.now }
-    ensures { IfOk result (AreDelays (G.description g.now).latency ops.now) }
+/// The delays between the operations of a block, by their nodes.
+pub(crate) fn delays_of(alloc: Global, nodes: &[Node]) -> Result<Delays, NoMemory>
+    requires few { length nodes.now ≤ 512 }
+    requires short { AreShort nodes.now }
+    ensures { IfOk result (AreDelays nodes.now) }
 {
-    let nodes = nodes(alloc, ops, g)?;
-    let mut d = Delays::new(alloc, ops.len() as u16)?;
+    let mut d = Delays::new(alloc, nodes.len() as u16)?;
     for i in 0..d.count() {
-        fill_row(&mut d, &nodes, i);
+        fill_row(&mut d, nodes, i);
     }
     Ok(d)
 }
@@ -176,5 +176,6 @@ pub(crate) fn delays_of<G: Generation>(
 pub fn delays<G: Generation>(alloc: Global, b: &GoodBlock, g: &G) -> Result<Delays, NoMemory>
     ensures { IfOk result (IsDelayTable (G.description g.now) b.now) }
 {
-    delays_of(alloc, &b.ops, g)
+    let nodes = nodes(alloc, &b.ops, g)?;
+    delays_of(alloc, &nodes)
 }

@@ -18,7 +18,6 @@ mod footprint;
 mod graph;
 pub mod laws;
 mod page;
-mod places;
 mod readings;
 mod rules;
 #[cfg(test)]

@@ -1,14 +1,16 @@
 // Words with their readings, and the rules that come before times.
+ghost use Rattle.std.specs.Prelude.{◌≡◌};
+ghost use Rattle.operation.specs.Places.{unit_number, unit_kind};
 ghost use Rattle.latency_deps.specs.Candidate.{AreReadings};
 
 use super::block::WordOp;
 use super::candidate::Candidate;
-use super::places::number_of_unit;
+use super::graph::nodes;
 use super::rules::{BlockFault, BlockRule};
 use block_table::Table;
 use list_encoding::{Coded, decode, times};
 use machine_desc::{Generation, Mdes};
-use operation::lat_kind;
+use operation::{Op, lat_kind, unit};
 use std::alloc::Global;
 use timed_meaning::TimedOp;
 use tnk_base::NoMemory;
@@ -21,8 +23,15 @@ pub(crate) struct Readings<'a> {
     ghost read: { AreReadings words.now readings.items },
 }
 
+/// The number of the unit kind that an operation takes.
+fn number_of_unit(op: &Op) -> u8
+    ensures { result ≡ unit_number (unit_kind op.now) }
+{
+    unit(op) as u8
+}
+
 impl<'a> Readings<'a> {
-    ghost use Rattle.std.specs.Prelude.{◌≡◌, ◌<◌, ◌≤◌, length, map, slice_index, None, MatchResult, IfOk};
+    ghost use Rattle.std.specs.Prelude.{◌<◌, ◌≤◌, length, map, slice_index, None, MatchResult, IfOk};
     ghost use Rattle.machine_desc.specs.Value.{description_of};
     ghost use Rattle.list_encoding.specs.Word.{HasReading};
     ghost use Rattle.list_encoding.specs.Times.{word_pace, issue_cycle};
@@ -128,11 +137,13 @@ impl<'a> Readings<'a> {
         for (k, at) in times.at.iter().enumerate() {
             ops.push(self.word_op(k as u16, *at, description))?;
         }
+        let nodes = nodes(alloc, &ops, description)?;
         Ok(Candidate {
             words,
             description,
             table,
             ops,
+            nodes,
             end: times.end,
         })
     }

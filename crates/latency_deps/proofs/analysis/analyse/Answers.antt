@@ -1,22 +1,21 @@
 use Rattle.std.proofs.Common.{◌≡◌, ◌∙◌, ℕ, List, [], ◌∷◌, length, Option, None, sym, ap, subst, arith}
 use Rattle.std.proofs.lemmas.Result.{err_from_is_err_and}
 use Rattle.machine_desc.specs.declared.Mdes.{Mdes}
-use Rattle.machine_desc.specs.Description.{IsDescription}
 use Rattle.machine_desc.specs.Value.{description_of}
-use Rattle.machine_desc.specs.Ranges.{in_description}
 use Rattle.block_table.specs.Rows.{Rows}
 use Rattle.serial_order.specs.Table.{Table, before}
 use Rattle.serial_order.specs.SerialOrder.{first_stuck}
-use Rattle.latency_deps.specs.declared.block.WordOp.{WordOp}
+use Rattle.latency_deps.specs.declared.graph.Node.{Node}
 use Rattle.latency_deps.specs.declared.rules.BlockRule.TheVariants as rule
 use Rattle.latency_deps.specs.Timing.{ops_of}
 use Rattle.latency_deps.specs.Tests.{breaks_unit, breaks_head}
 use Rattle.latency_deps.specs.Rules.{least_breaking, first_among, first_broken}
 use Rattle.latency_deps.specs.Candidate.{AreTimed, least_of}
 use Rattle.latency_deps.specs.Asked.{breaks_in, rules_on_times}
-use Rattle.latency_deps.specs.Graph.{LandInTime, AreDelays}
-use Rattle.latency_deps.proofs.Kept.{KeepsFirst, at_unit, at_head, on_times, on_order, built, made_good}
-use Rattle.latency_deps.proofs.Orders.{few_ops, ops_in_time, stuck_is, cycle_fault, no_cycle}
+use Rattle.latency_deps.specs.Graph.{AreNodes, AreShort, AreDelays}
+use Rattle.latency_deps.proofs.Kept.{KeepsFirst, at_unit, at_head, on_times, on_order, built, described, made_good}
+use Rattle.latency_deps.proofs.Graphs.{as_many_nodes, op_delays, short_nodes}
+use Rattle.latency_deps.proofs.Orders.{few_ops, stuck_is, cycle_fault, no_cycle}
 use Rattle.latency_deps.proofs.analysis.analyse.Goals as goal
 use Rattle.latency_deps.proofs.analysis.analyse.Goals.{After-first_broken}
 
@@ -41,10 +40,6 @@ returns-in-Some-first_without_head-clause-answer c =
     at_head (description_of c.args.description.now) c.args.table.now c.args.words.now c.in-Some-first_without_head.k read.answer
     (units _ _ _ _ read.same c.first_wrong_unit.ensures c.in_default.is)
     (heads _ _ _ _ read.same c.first_without_head.ensures c.in-Some-first_without_head.is)
-
--- the numbers of a description are in their ranges
-described : (m : Mdes) → IsDescription (description_of m)
-described m = in_description m.width m.units m.latency m.in_range
 
 -- the rules before times are kept
 first : (c : After-first_broken) → KeepsFirst (description_of c.args.description.now) c.args.table.now c.args.words.now
@@ -83,25 +78,35 @@ returns-in-Some-first_broken-clause-answer c =
     let at = (goal.at.returns-in-Some-first_broken-clause-answer c).After-first_broken in
     on_times (description_of c.args.description.now) c.args.table.now c.args.words.now _ _ (first at) (sym (broken at) ∙ c.in-Some-first_broken.is)
 
+-- and its nodes are those of the operations
+are_nodes : (c : After-first_broken) →
+    AreNodes (description_of c.args.description.now).latency c.in_ok-candidate.candidate.ops.items c.in_ok-candidate.candidate.nodes.items
+are_nodes c =
+    let made = c.in_ok-candidate.candidate in
+    subst (λ (m : Mdes). AreNodes (description_of m).latency made.ops.items made.nodes.items) c.in_ok-candidate.ensures.description made.as_nodes
+
 pub delays_of-requires-clause-few : goal.delays_of-requires-clause-few
 delays_of-requires-clause-few c =
     let at = (goal.at.delays_of-requires-clause-few c).After-first_broken in
     let few = few_ops _ _ _ _ (timed at) in
     let same = ap length c.deref.ensures.value in
-    omega arith
+    omega (arith, as_many_nodes (description_of c.args.description.now).latency _ _ (are_nodes at))
 
-pub delays_of-requires-clause-time : goal.delays_of-requires-clause-time
-delays_of-requires-clause-time c =
-    let at = (goal.at.delays_of-requires-clause-time c).After-first_broken in
-    subst LandInTime (sym c.deref.ensures.value) (ops_in_time _ _ _ _ (timed at) (described c.args.description.now))
+pub delays_of-requires-clause-short : goal.delays_of-requires-clause-short
+delays_of-requires-clause-short c =
+    let at = (goal.at.delays_of-requires-clause-short c).After-first_broken in
+    subst AreShort (sym c.deref.ensures.value)
+    (short_nodes (description_of c.args.description.now) _ _ (described c.args.description.now) (are_nodes at))
 
 -- the first that is stuck by the table of delays is the least operation that breaks the rule on order
-stuck : (c : After-first_broken) (held : List WordOp) (d : Table) → held ≡ c.in_ok-candidate.candidate.ops.items →
-    AreDelays (description_of c.args.description.now).latency held d →
+stuck : (c : After-first_broken) (held : List Node) (d : Table) → held ≡ c.in_ok-candidate.candidate.nodes.items → AreDelays held d →
     first_stuck (before d) d.count ≡ least_breaking (description_of c.args.description.now) c.args.table.now c.args.words.now rule.Cycle
 stuck c held d same are =
     let g = description_of c.args.description.now in
-    stuck_is g c.args.words.now _ _ (timed c) d (subst (λ (ops : List WordOp). AreDelays g.latency ops d) same are) c.args.table.now
+    let made = c.in_ok-candidate.candidate in
+    stuck_is g c.args.words.now _ _ (timed c) d
+    (op_delays g.latency made.ops.items made.nodes.items d (are_nodes c) (subst (λ (nodes : List Node). AreDelays nodes d) same are))
+    c.args.table.now
 
 -- where the rules before are kept, that rule alone decides
 order_decides : (c : After-first_broken) → c.first_broken.result ≡ None →
@@ -119,8 +124,8 @@ returns-in_err-order-clause-answer c =
     (stuck at c.deref.result.now d c.deref.ensures.value c.in_ok-delays.ensures) (order_decides at c.in_default-first_broken.is))
 
 -- an order shows that no rule is broken
-kept : (c : After-first_broken) (held : List WordOp) (d : Table) → c.first_broken.result ≡ None → held ≡ c.in_ok-candidate.candidate.ops.items →
-    AreDelays (description_of c.args.description.now).latency held d → first_stuck (before d) d.count ≡ None →
+kept : (c : After-first_broken) (held : List Node) (d : Table) → c.first_broken.result ≡ None → held ≡ c.in_ok-candidate.candidate.nodes.items →
+    AreDelays held d → first_stuck (before d) d.count ≡ None →
     first_broken (description_of c.args.description.now) c.args.table.now c.args.words.now ≡ None
 kept c held d none same are ordered =
     no_cycle (description_of c.args.description.now) c.args.table.now c.args.words.now (sym (stuck c held d same are) ∙ ordered) (order_decides c none)

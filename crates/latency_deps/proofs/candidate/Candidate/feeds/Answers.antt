@@ -1,0 +1,8 @@
+use Rattle.latency_deps.specs.Asked.{ops_in}
+use Rattle.latency_deps.proofs.Footprints.{feeds_law}
+use Rattle.latency_deps.proofs.candidate.Candidate.feeds.Goals as goal
+
+pub returns : goal.returns
+returns c =
+    let self = c.args.self.now in
+    rw (c.feeds.ensures, c.node.ensures, c.node-2.ensures) (feeds_law (ops_in self c.args.i) (ops_in self c.args.k))
