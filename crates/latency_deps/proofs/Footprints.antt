@@ -19,7 +19,7 @@ use Rattle.latency_deps.specs.declared.footprint.Role.{Role}
 use Rattle.latency_deps.specs.declared.footprint.Role.TheVariants as role
 use Rattle.latency_deps.specs.Tests.{is_memory, both_write, both_write_at}
 use Rattle.latency_deps.specs.Before.{feeds, keep_list_order}
-use Rattle.latency_deps.specs.Footprint.{place_number, only, set_of, meets, operands, read_places, role_in, role_at, same_role, written_as, footprint, are_strangers, is_fed, write_both}
+use Rattle.latency_deps.specs.Footprint.{place_number, only, set_of, meets, operands, read_places, role_in, role_at, same_role, written_as, footprint, is_stranger_to, feeds as sets_feed, clashes as sets_clash}
 use Rattle.latency_deps.proofs.PlaceSets.{some_in_either, some_in_four, meets_comm, meets_none, meets_either, meets_alone}
 use Rattle.latency_deps.proofs.PlaceRanges.{InRange, same_is, same_number, written_in_range, read_in_range, kept_in_range}
 
@@ -168,7 +168,7 @@ reads_law : (g : Guarded) (x : Place) → not_constant x (is_among x (read_place
 reads_law g x = ap (λ b. not_constant x (same_place x (Predicate g.guard) || b)) (operands_law (sources g.op) x)
 
 -- the first operation feeds the second where their footprints say so
-pub feeds_law : (a b : Guarded) → is_fed (footprint a) (footprint b) ≡ feeds a b
+pub feeds_law : (a b : Guarded) → sets_feed (footprint a) (footprint b) ≡ feeds a b
 feeds_law a b =
     sets_meet (destinations a.op) (read_places b) (written_in_range a) (read_in_range b)
     ∙ any_agree (λ x. not_constant x (is_among x (read_places b))) (reads b) (reads_law b) (destinations a.op)
@@ -264,7 +264,7 @@ module _ (a b : Guarded) where
   four : (p q r s p' q' r' s' : Bool) → p ≡ p' → q ≡ q' → r ≡ r' → s ≡ s' → (((p || q) || r) || s) ≡ (((p' || q') || r') || s')
   four p q r s p' q' r' s' e f g h = cc
 
-  by_place : write_both (footprint a) (footprint b) ≡ list_any in_common (destinations b.op)
+  by_place : sets_clash (footprint a) (footprint b) ≡ list_any in_common (destinations b.op)
   unfolding in_common
   by_place =
       some_in_four
@@ -285,7 +285,7 @@ module _ (a b : Guarded) where
       (destinations b.op)
 
 -- both operations write a place, not as one wired family, where their footprints say so
-pub clash_law : (a b : Guarded) → write_both (footprint a) (footprint b) ≡ both_write a.op b.op
+pub clash_law : (a b : Guarded) → sets_clash (footprint a) (footprint b) ≡ both_write a.op b.op
 clash_law a b = by_place a b ∙ any_agree (in_common a b) (both_write_at a.op b.op) (at_place a b) (destinations b.op)
 
 -- ---- operations that have nothing in common
@@ -309,7 +309,7 @@ pub record AreStrangers (a b : Guarded) : Type 0 where
   pub from : feeds b a ≡ false
   pub apart : both_write a.op b.op ≡ false
 
-pub strangers_law : (a b : Guarded) → are_strangers (footprint a) (footprint b) ≡ true → AreStrangers a b
+pub strangers_law : (a b : Guarded) → is_stranger_to (footprint a) (footprint b) ≡ true → AreStrangers a b
 strangers_law a b e =
     let none = none_in_three _ _ _ e in
     record {

@@ -13,7 +13,7 @@ use Rattle.timed_meaning.specs.declared.TimedOp.{TimedOp}
 use Rattle.latency_deps.specs.declared.graph.Meeting.{Meeting}
 use Rattle.latency_deps.specs.Tests.{both_write}
 use Rattle.latency_deps.specs.Before.{lands_at, feeds, keep_list_order, comes_before, where_applies, applying, greatest, delay_between}
-use Rattle.latency_deps.specs.Footprint.{footprint, are_strangers, is_fed, write_both}
+use Rattle.latency_deps.specs.Footprint.{footprint, is_stranger_to, feeds as sets_feed, clashes as sets_clash}
 use Rattle.latency_deps.specs.Graph.{node, meeting, is_before, at_least, greatest_of, delay_by_meeting, delay_of_nodes}
 use Rattle.latency_deps.proofs.Footprints.{feeds_law, clash_law, keep_law, strangers_law}
 
@@ -79,14 +79,14 @@ module _ (latency : LatKind → ℕ) (i j : ℕ) (a b : TimedOp) where
       let gb = b.guarded in
       let fa = footprint ga in
       let fb = footprint gb in
-      ap (λ (f : Bool). by_nodes f (is_fed fb fa) (write_both fa fb) (keep_issue_order ga.op gb.op)) (feeds_law ga gb)
-      ∙ ap (λ (g : Bool). by_nodes (feeds ga gb) g (write_both fa fb) (keep_issue_order ga.op gb.op)) (feeds_law gb ga)
+      ap (λ (f : Bool). by_nodes f (sets_feed fb fa) (sets_clash fa fb) (keep_issue_order ga.op gb.op)) (feeds_law ga gb)
+      ∙ ap (λ (g : Bool). by_nodes (feeds ga gb) g (sets_clash fa fb) (keep_issue_order ga.op gb.op)) (feeds_law gb ga)
       ∙ ap (λ (w : Bool). by_nodes (feeds ga gb) (feeds gb ga) w (keep_issue_order ga.op gb.op)) (clash_law ga gb)
       ∙ ap (λ (k : Bool). by_nodes (feeds ga gb) (feeds gb ga) (both_write ga.op gb.op) k) (sym (keep_law ga.op gb.op))
       ∙ alike (feeds ga gb) (feeds gb ga) (both_write ga.op gb.op) (keep_list_order ga.op gb.op)
 
   -- operations that have nothing in common come in no order
-  no_delay : are_strangers (footprint a.guarded) (footprint b.guarded) ≡ true → keep_issue_order a.guarded.op b.guarded.op ≡ false → delay_between latency i j a b ≡ None
+  no_delay : is_stranger_to (footprint a.guarded) (footprint b.guarded) ≡ true → keep_issue_order a.guarded.op b.guarded.op ≡ false → delay_between latency i j a b ≡ None
   no_delay e f =
       let ga = a.guarded in
       let gb = b.guarded in
@@ -98,9 +98,9 @@ module _ (latency : LatKind → ℕ) (i j : ℕ) (a b : TimedOp) where
       ∙ ap (λ (x : Bool). cond x (Some (greatest [])) None) (and_right (not (nat_eq i j)) false refl)
 
   pub delay_law : delay_of_nodes i j (node latency a) (node latency b) ≡ delay_between latency i j a b
-  delay_law = go (are_strangers (footprint a.guarded) (footprint b.guarded)) refl (keep_issue_order a.guarded.op b.guarded.op) refl
+  delay_law = go (is_stranger_to (footprint a.guarded) (footprint b.guarded)) refl (keep_issue_order a.guarded.op b.guarded.op) refl
     where
-      go : (s : Bool) → are_strangers (footprint a.guarded) (footprint b.guarded) ≡ s → (k : Bool) → keep_issue_order a.guarded.op b.guarded.op ≡ k →
+      go : (s : Bool) → is_stranger_to (footprint a.guarded) (footprint b.guarded) ≡ s → (k : Bool) → keep_issue_order a.guarded.op b.guarded.op ≡ k →
           cond (s && not k) None (delay_by_meeting (meeting (node latency a) (node latency b)) i j (node latency a) (node latency b)) ≡ delay_between latency i j a b
       go true e true f = by_meeting
       go true e false f = sym (no_delay e f)

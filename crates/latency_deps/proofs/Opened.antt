@@ -9,7 +9,7 @@ use Rattle.list_encoding.specs.Word.{HasReading}
 use Rattle.list_encoding.specs.Reading.{guarded_in, halt}
 use Rattle.list_encoding.proofs.GuardedIn.{guarded_of_reading}
 use Rattle.latency_deps.specs.Tests.{breaks_opcode}
-use Rattle.latency_deps.specs.Candidate.{least_of}
+use Rattle.latency_deps.specs.Rules.{least_of}
 
 -- the readings of the first n words
 pub record ReadSoFar (words : List ℕ) (n : ℕ) (readings : List Coded) : Type 0 where

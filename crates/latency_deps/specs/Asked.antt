@@ -1,5 +1,5 @@
 -- What the rules say of a candidate's words.
-use Rattle.std.specs.Prelude.{ℕ, ◌+◌, ◌-◌, Bool, ◌&&◌, nat_eq, Option, List, [], ◌∷◌, length, find}
+use Rattle.std.specs.Prelude.{ℕ, ◌+◌, ◌-◌, Bool, ◌&&◌, nat_eq, Option, List, [], ◌∷◌}
 use Rattle.std.specs.List.{range_with_len}
 use Rattle.operation.specs.declared.Guarded.{Guarded}
 use Rattle.machine_desc.specs.Value.{description_of}
@@ -11,13 +11,14 @@ use Rattle.two_timings.specs.Timing.{Timing, timed}
 use Rattle.latency_deps.specs.Timing.{ops_of, own_timing}
 use Rattle.latency_deps.specs.Issue.{same_unit}
 use Rattle.latency_deps.specs.Tests.{unit_of}
-use Rattle.latency_deps.specs.Rules.{breaks}
+use Rattle.latency_deps.specs.Rules.{breaks, least_of}
 use Rattle.latency_deps.specs.Graph.{node}
 
--- the operations of a candidate by number, and their times
+-- the operations of a candidate by number
 abbrev pub ops_in : Candidate → ℕ → Guarded
 ops_in c = ops_of c.words.now
 
+-- their times
 abbrev pub timing_in : Candidate → Timing
 timing_in c = own_timing (description_of c.description.now) c.words.now
 
@@ -39,7 +40,7 @@ breaks_in c = breaks (description_of c.description.now) c.table.now c.words.now
 
 -- the least operation of a candidate that breaks the rule
 abbrev pub least_in : Candidate → BlockRule → Option ℕ
-least_in c r = find (breaks_in c r) (range_with_len 0 (length c.words.now))
+least_in c r = least_of (breaks_in c r) c.words.now
 
 -- the rules from the width on, in their order
 abbrev pub rules_on_times : List BlockRule

@@ -1,5 +1,5 @@
 -- Words on the way to a block: their readings, and their operations with their times.
-use Rattle.std.specs.Prelude.{ℕ, ◌≡◌, ◌≤◌, ◌<◌, Bool, Option, Some, List, map, length, find, slice_index, slice_index_or}
+use Rattle.std.specs.Prelude.{ℕ, ◌≡◌, ◌≤◌, ◌<◌, Option, Some, List, map, length, slice_index, slice_index_or}
 use Rattle.std.specs.List.{range_with_len}
 use Rattle.machine_desc.specs.Description.{Description}
 use Rattle.list_encoding.specs.declared.Coded.{Coded}
@@ -11,10 +11,6 @@ use Rattle.latency_deps.specs.declared.block.WordOp.{WordOp}
 use Rattle.two_timings.specs.Timing.{timed}
 use Rattle.latency_deps.specs.Timing.{ops_of, own_timing}
 use Rattle.latency_deps.specs.Rules.{end_of}
-
--- the least operation of the words of which the test holds
-abbrev pub least_of : (ℕ → Bool) → List ℕ → Option ℕ
-least_of test words = find test (range_with_len 0 (length words))
 
 -- a fault is this rule, broken by this operation, or want of memory
 abbrev pub IsFaultOf : BlockRule → Option ℕ → BlockFault → Type 0

@@ -81,14 +81,14 @@ footprint g = record {
 }
 
 -- the first writes a place that the second reads
-abbrev pub is_fed : Footprint → Footprint → Bool
-is_fed a b = meets a.writes b.reads
+abbrev pub feeds : Footprint → Footprint → Bool
+feeds a b = meets a.writes b.reads
 
 -- neither reads or writes what the other writes
-abbrev pub are_strangers : Footprint → Footprint → Bool
-are_strangers a b = nat_eq (bit_or (bit_or (bit_and a.writes b.reads) (bit_and a.writes b.writes)) (bit_and a.reads b.writes)) 0
+abbrev pub is_stranger_to : Footprint → Footprint → Bool
+is_stranger_to a b = nat_eq (bit_or (bit_or (bit_and a.writes b.reads) (bit_and a.writes b.writes)) (bit_and a.reads b.writes)) 0
 
 -- both write a register, predicate or target, and aren't wired there in one family
-abbrev pub write_both : Footprint → Footprint → Bool
-write_both a b =
+abbrev pub clashes : Footprint → Footprint → Bool
+clashes a b =
     not (nat_eq (bit_or (bit_or (bit_or (bit_and a.plain b.writes) (bit_and a.writes b.plain)) (bit_and a.ones b.zeros)) (bit_and a.zeros b.ones)) 0)

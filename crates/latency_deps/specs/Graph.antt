@@ -11,7 +11,7 @@ use Rattle.latency_deps.specs.declared.block.WordOp.{WordOp}
 use Rattle.latency_deps.specs.declared.graph.Node.{Node}
 use Rattle.latency_deps.specs.declared.graph.Meeting.{Meeting}
 use Rattle.latency_deps.specs.Before.{lands_at}
-use Rattle.latency_deps.specs.Footprint.{footprint, are_strangers, is_fed, write_both}
+use Rattle.latency_deps.specs.Footprint.{footprint, is_stranger_to, feeds, clashes}
 
 -- an operation as a node
 abbrev pub node : (LatKind → ℕ) → TimedOp → Node
@@ -26,20 +26,20 @@ node latency o = record {
 -- what stands between two operations
 abbrev pub meeting : Node → Node → Meeting
 meeting a b = record {
-  feeds = is_fed a.footprint b.footprint;
-  fed = is_fed b.footprint a.footprint;
-  both_write = write_both a.footprint b.footprint;
+  feeds = feeds a.footprint b.footprint;
+  fed = feeds b.footprint a.footprint;
+  both_write = clashes a.footprint b.footprint;
   in_list_order = keep_issue_order a.op b.op;
 }
 
 -- by that and their times the first comes before the second, whatever their places in the list
-abbrev pub before_by_times : Meeting → Node → Node → Bool
-before_by_times m a b =
+abbrev pub before_in_any_list : Meeting → Node → Node → Bool
+before_in_any_list m a b =
     (m.feeds && nat_le a.lands b.at) || ((m.fed && nat_lt a.at b.lands) || (m.both_write && nat_lt a.lands b.lands))
 
 -- a, at the place i of the list, comes before b, at the place j
 abbrev pub is_before : Meeting → (i j : ℕ) → Node → Node → Bool
-is_before m i j a b = not (nat_eq i j) && (before_by_times m a b || (m.in_list_order && nat_lt i j))
+is_before m i j a b = not (nat_eq i j) && (before_in_any_list m a b || (m.in_list_order && nat_lt i j))
 
 -- the greater of two delays, where the other one applies
 abbrev pub at_least : ℤ → Bool → ℤ → ℤ
@@ -55,7 +55,7 @@ greatest_of m a b =
 
 -- the two can stand in any order, whatever their times
 abbrev pub have_nothing_in_common : Node → Node → Bool
-have_nothing_in_common a b = are_strangers a.footprint b.footprint && not (keep_issue_order a.op b.op)
+have_nothing_in_common a b = is_stranger_to a.footprint b.footprint && not (keep_issue_order a.op b.op)
 
 -- the greatest delay of those that apply, where a comes before b
 abbrev pub delay_by_meeting : Meeting → (i j : ℕ) → Node → Node → Option ℤ

@@ -39,9 +39,13 @@ rules =
     rule.Opcode ∷ (rule.Unit ∷ (rule.Head ∷ (rule.Width ∷ (rule.Units ∷ (rule.SecondBranch ∷ (rule.Target ∷
     (rule.Drain ∷ (rule.BranchEnd ∷ (rule.BranchShadow ∷ (rule.Landing ∷ (rule.Cycle ∷ [])))))))))))
 
+-- the least operation of the words of which the test holds
+abbrev pub least_of : (ℕ → Bool) → List ℕ → Option ℕ
+least_of test words = find test (range_with_len 0 (length words))
+
 -- the least operation of the words that breaks the rule
 abbrev pub least_breaking : Description → Rows → List ℕ → BlockRule → Option ℕ
-least_breaking g rows words r = find (breaks g rows words r) (range_with_len 0 (length words))
+least_breaking g rows words r = least_of (breaks g rows words r) words
 
 -- the first of some rules that is broken, with its least operation
 abbrev pub first_among : (BlockRule → Option ℕ) → List BlockRule → Option (BlockRule × ℕ)

@@ -4,7 +4,7 @@ ghost use Rattle.machine_desc.specs.Description.{Description};
 ghost use Rattle.serial_order.specs.Table.{delay_of};
 ghost use Rattle.latency_deps.specs.Before.{lands_at};
 ghost use Rattle.latency_deps.specs.Delays.{IsDelayTable};
-ghost use Rattle.latency_deps.specs.Graph.{node, meeting, before_by_times as is_before_by_times, is_before as is_first, at_least as is_at_least, greatest_of, delay_of_nodes, node_at, LandInTime, AreNodes, AreShort, AreDelays};
+ghost use Rattle.latency_deps.specs.Graph.{node, meeting, before_in_any_list as is_before_in_any_list, is_before as is_first, at_least as is_at_least, greatest_of, delay_of_nodes, node_at, LandInTime, AreNodes, AreShort, AreDelays};
 
 use super::block::{GoodBlock, WordOp};
 use super::footprint::Footprint;
@@ -91,10 +91,10 @@ fn at_least(delay: i8, applies: bool, other: i8) -> i8
 }
 
 impl Meeting {
-    /// Whether the first operation comes before the second by the times of the block. No branch: pairs are many, and each
-    /// way is as likely as the other.
-    fn before_by_times(&self, a: &Node, b: &Node) -> bool
-        ensures { result ≡ is_before_by_times self.now a.now b.now }
+    /// Whether the first operation comes before the second by the times of the block, whatever their places in the list.
+    /// No branch: pairs are many, and each way is as likely as the other.
+    fn before_in_any_list(&self, a: &Node, b: &Node) -> bool
+        ensures { result ≡ is_before_in_any_list self.now a.now b.now }
     {
         (self.feeds & (a.lands <= b.at))
             | (self.fed & (a.at < b.lands))
@@ -105,7 +105,7 @@ impl Meeting {
     fn is_before(&self, i: u16, a: &Node, j: u16, b: &Node) -> bool
         ensures { result ≡ is_first self.now i j a.now b.now }
     {
-        i != j && (self.before_by_times(a, b) || self.in_list_order && i < j)
+        i != j && (self.before_in_any_list(a, b) || self.in_list_order && i < j)
     }
 
     /// The greatest delay that applies. None is below -31: that of a reader before a writer with a latency of 32.

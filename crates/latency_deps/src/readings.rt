@@ -38,7 +38,8 @@ impl<'a> Readings<'a> {
     ghost use Rattle.latency_deps.specs.declared.rules.BlockRule.TheVariants as rule;
     ghost use Rattle.latency_deps.specs.Timing.{ops_of};
     ghost use Rattle.latency_deps.specs.Tests.{breaks_opcode, breaks_unit, breaks_head};
-    ghost use Rattle.latency_deps.specs.Candidate.{least_of, IsFaultOf, word_op as made_word_op};
+    ghost use Rattle.latency_deps.specs.Rules.{least_of};
+    ghost use Rattle.latency_deps.specs.Candidate.{IsFaultOf, word_op as made_word_op};
 
     /// The readings of the words, or the least word that has none.
     pub(crate) fn of(alloc: Global, words: &'a [u64]) -> Result<Self, BlockFault>

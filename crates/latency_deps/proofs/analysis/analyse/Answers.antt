@@ -9,8 +9,8 @@ use Rattle.latency_deps.specs.declared.graph.Node.{Node}
 use Rattle.latency_deps.specs.declared.rules.BlockRule.TheVariants as rule
 use Rattle.latency_deps.specs.Timing.{ops_of}
 use Rattle.latency_deps.specs.Tests.{breaks_unit, breaks_head}
-use Rattle.latency_deps.specs.Rules.{least_breaking, first_among, first_broken}
-use Rattle.latency_deps.specs.Candidate.{AreTimed, least_of}
+use Rattle.latency_deps.specs.Rules.{least_of, least_breaking, first_among, first_broken}
+use Rattle.latency_deps.specs.Candidate.{AreTimed}
 use Rattle.latency_deps.specs.Asked.{breaks_in, rules_on_times}
 use Rattle.latency_deps.specs.Graph.{AreNodes, AreShort, AreDelays}
 use Rattle.latency_deps.proofs.Kept.{KeepsFirst, at_unit, at_head, on_times, on_order, built, described, made_good}
