@@ -6,7 +6,6 @@ use Rattle.std.specs.List.{list_any, AllByRecursion}
 use Rattle.std.proofs.Math.Bool.{and-true, and-false, or-false, or_assoc, and-or_distrib_right}
 use Rattle.std.proofs.lemmas.Bool.{false_from_ne_true, or_parts, or_from, and_left, and_right, not-false, eqb-true}
 use Rattle.operation.specs.declared.Op.{Op}
-use Rattle.operation.specs.declared.Op.TheVariants as op
 use Rattle.operation.specs.declared.Guarded.{Guarded}
 use Rattle.operation.specs.declared.Sources.{Sources}
 use Rattle.operation.specs.declared.Place.{Place}
@@ -14,6 +13,7 @@ use Rattle.operation.specs.declared.Place.TheVariants.{General, Predicate, Targe
 use Rattle.operation.specs.declared.Family.{Family}
 use Rattle.operation.specs.declared.Family.TheVariants.{One, Zero}
 use Rattle.operation.specs.Places.{is_constant, not_constant, same_place, is_among, if_any, sources, is_source, is_read_by, reads, destinations, writes, wired, same_family, are_wired_together, is_store, is_inb, can_trap}
+use Rattle.operation.proofs.PlaceLaws.{same_place_is, store_traps}
 use Rattle.trap_order.specs.Order.{keep_issue_order}
 use Rattle.latency_deps.specs.declared.footprint.Role.{Role}
 use Rattle.latency_deps.specs.declared.footprint.Role.TheVariants as role
@@ -21,13 +21,9 @@ use Rattle.latency_deps.specs.Tests.{is_memory, both_write, both_write_at}
 use Rattle.latency_deps.specs.Before.{feeds, keep_list_order}
 use Rattle.latency_deps.specs.Footprint.{place_number, only, set_of, meets, operands, read_places, role_in, role_at, same_role, written_as, footprint, is_stranger_to, feeds as sets_feed, clashes as sets_clash}
 use Rattle.latency_deps.proofs.PlaceSets.{some_in_either, some_in_four, meets_comm, meets_none, meets_either, meets_alone}
-use Rattle.latency_deps.proofs.PlaceRanges.{InRange, same_is, same_number, written_in_range, read_in_range, kept_in_range}
+use Rattle.latency_deps.proofs.PlaceRanges.{InRange, same_number, written_in_range, read_in_range, kept_in_range}
 
 -- ---- stores in list order
-
-store_traps : (o : Op) → is_store o ≡ true → can_trap o ≡ true
-store_traps (op.Store size d s imm) h = refl
-store_traps o h = absurd (let no : ⊥ = cc in no)
 
 -- a test that another one implies adds nothing
 implied : (s t p q b : Bool) → (s ≡ true → p ≡ true) → (t ≡ true → q ≡ true) → ((s && t) || ((p && q) || b)) ≡ ((p && q) || b)
@@ -84,9 +80,9 @@ among_filter p x (y ∷ xs) =
   where
     go : (b : Bool) → p y ≡ b → (s : Bool) → same_place x y ≡ s →
         is_among x (cond b (y ∷ filter p xs) (filter p xs)) ≡ ((s && p x) || is_among x (filter p xs))
-    go true e true f = let passes : p x ≡ true = ap p (same_is x y f) ∙ e in rw (f, passes) refl
+    go true e true f = let passes : p x ≡ true = ap p (same_place_is x y f) ∙ e in rw (f, passes) refl
     go true e false f = ap (λ b. b || is_among x (filter p xs)) f
-    go false e true f = let fails : p x ≡ false = ap p (same_is x y f) ∙ e in rw fails refl
+    go false e true f = let fails : p x ≡ false = ap p (same_place_is x y f) ∙ e in rw fails refl
     go false e false f = refl
 
 -- ---- sets of places in range
@@ -101,7 +97,7 @@ alone x y h k = go (is_constant x) (is_constant y) refl refl
     go false true e f =
         meets_comm (2 ^ place_number x) 0
         ∙ meets_none (2 ^ place_number x)
-        ∙ sym (false_from_ne_true (same_place x y) (λ same. let no : ⊥ = cc (ap is_constant (same_is x y same)) in no))
+        ∙ sym (false_from_ne_true (same_place x y) (λ same. let no : ⊥ = cc (ap is_constant (same_place_is x y same)) in no))
     go false false e f = meets_alone (place_number x) (place_number y) ∙ same_number x y h k
 
 -- the set of a place, and that of a list

@@ -1,14 +1,14 @@
 -- Which operation comes before which, as a test and as a relation.
-use Rattle.std.proofs.Common.{◌≡◌, ◌≢◌, ℕ, zero, suc, ◌<◌, Bool, true, false, cond, not, ◌&&◌, ◌||◌, List, [], ◌∷◌, ◌↔◌, refl, sym, ap, subst, ◌∙◌, inl, inr}
+use Rattle.std.proofs.Common.{◌≡◌, ◌≢◌, ℕ, ◌<◌, Bool, true, not, ◌&&◌, ◌||◌, List, [], ◌∷◌, ◌↔◌, refl, sym, ap, subst, ◌∙◌, inl, inr}
 use Rattle.std.specs.Prelude.{nat_eq, nat_lt, nat_le}
 use Rattle.std.specs.List.{list_any, range_with_len}
 use Rattle.std.proofs.lemmas.Bool.{and_parts, and_from, or_cases, or_left, or_right, ltb-true, lt-ltb, leb-true, le-leb, eq-eqb, ne_eqb, both_ways, not-true}
 use Rattle.operation.specs.declared.Guarded.{Guarded}
 use Rattle.operation.specs.declared.Op.{Op}
-use Rattle.operation.specs.declared.Op.TheVariants as op
 use Rattle.operation.specs.declared.Place.{Place}
 use Rattle.operation.specs.declared.Place.TheVariants.{General, Predicate, Target, Memory}
-use Rattle.operation.specs.Places.{reads, writes, sources, destinations, is_among, same_place, is_constant, are_wired_together, is_store, is_load}
+use Rattle.operation.specs.Places.{reads, writes, destinations, is_among, same_place, are_wired_together, is_store, is_load}
+use Rattle.operation.proofs.PlaceLaws.{same_place_is, among_head, among_next, read_varies, write_varies, writes_at, written_among, store_writes, load_reads}
 use Rattle.trap_order.specs.Order.{keep_issue_order}
 use Rattle.two_timings.specs.Timing.{Timing, lands, BothWriteAt}
 use Rattle.two_timings.specs.Before.{Before, Read, ReadOld, Write, Load, LoadOld, Stores, Issue}
@@ -16,7 +16,6 @@ use Rattle.two_timings.proofs.Conflicts.{read_before, old_before, listed_before}
 use Rattle.latency_deps.specs.Tests.{is_memory, both_write, both_write_at}
 use Rattle.latency_deps.specs.Before.{feeds, keep_list_order, before_by}
 use Rattle.serial_order.specs.Lists.{Earlier}
-use Rattle.latency_deps.proofs.PlaceRanges.{same_is}
 use Rattle.latency_deps.proofs.Numbers.{earlier_range, range_earlier}
 
 -- one of the listed places passes the test
@@ -25,49 +24,21 @@ record SomePlace (p : Place → Bool) (xs : List Place) : Type 0 where
   pub among : is_among place xs ≡ true
   pub passes : p place ≡ true
 
-same_refl : (x : Place) → same_place x x ≡ true
-same_refl (General a) = eq-eqb a a refl
-same_refl (Predicate a) = eq-eqb a a refl
-same_refl (Target a) = eq-eqb a a refl
-same_refl Memory = refl
-
 some_of : (p : Place → Bool) (xs : List Place) → list_any p xs ≡ true → SomePlace p xs
 some_of p [] h = cc
 some_of p (x ∷ xs) h = elim (or_cases (p x) (list_any p xs) h) [
-  | inl e ↦ record { place = x; among = or_left (same_place x x) (is_among x xs) (same_refl x); passes = e }
+  | inl e ↦ record { place = x; among = among_head x xs; passes = e }
   | inr e ↦
       let r = some_of p xs e in
-      record { place = r.place; among = or_right (same_place r.place x) (is_among r.place xs) r.among; passes = r.passes }
+      record { place = r.place; among = among_next r.place x xs r.among; passes = r.passes }
 ]
 
 of_some : (p : Place → Bool) (xs : List Place) (x : Place) → is_among x xs ≡ true → p x ≡ true → list_any p xs ≡ true
 of_some p [] x a h = cc
 of_some p (y ∷ ys) x a h = elim (or_cases (same_place x y) (is_among x ys) a) [
-  | inl e ↦ or_left (p y) (list_any p ys) (ap p (sym (same_is x y e)) ∙ h)
+  | inl e ↦ or_left (p y) (list_any p ys) (ap p (sym (same_place_is x y e)) ∙ h)
   | inr e ↦ or_right (p y) (list_any p ys) (of_some p ys x e h)
 ]
-
-read_varies : (g : Guarded) (x : Place) → reads g x ≡ true → is_constant x ≡ false
-read_varies g (General zero) h = cc
-read_varies g (General (suc n)) h = refl
-read_varies g (Predicate zero) h = cc
-read_varies g (Predicate (suc n)) h = refl
-read_varies g (Target n) h = refl
-read_varies g Memory h = refl
-
-write_varies : (o : Op) (x : Place) → writes o x ≡ true → is_constant x ≡ false
-write_varies o (General zero) h = cc
-write_varies o (General (suc n)) h = refl
-write_varies o (Predicate zero) h = cc
-write_varies o (Predicate (suc n)) h = refl
-write_varies o (Target n) h = refl
-write_varies o Memory h = refl
-
-written : (o : Op) (x : Place) → is_constant x ≡ false → is_among x (destinations o) ≡ true → writes o x ≡ true
-written o x v a = ap (λ b. cond b false (is_among x (destinations o))) v ∙ a
-
-among_written : (o : Op) (x : Place) → writes o x ≡ true → is_among x (destinations o) ≡ true
-among_written o x w = sym (ap (λ b. cond b false (is_among x (destinations o))) (write_varies o x w)) ∙ w
 
 is_other : (x : Place) → not (is_memory x) ≡ true → x ≢ Memory
 is_other (General n) h e = cc
@@ -81,17 +52,6 @@ not_memory (Predicate n) ne = refl
 not_memory (Target n) ne = refl
 not_memory Memory ne = absurd (ne refl)
 
-store_among : (o : Op) → is_store o ≡ true → is_among Memory (destinations o) ≡ true
-store_among (op.Store size d s imm) h = refl
-store_among _ h = cc
-
-load_source : (o : Op) → is_load o ≡ true → (sources o).memory ≡ true
-load_source (op.Load size d s imm) h = refl
-load_source _ h = cc
-
-load_reads : (g : Guarded) → is_load g.op ≡ true → reads g Memory ≡ true
-load_reads g h = load_source g.op h
-
 both_at : (i j : Op) (x : Place) → is_among x (destinations j) ≡ true → both_write_at i j x ≡ true → BothWriteAt i j x
 both_at i j x a h =
     let p = and_parts (not (is_memory x)) (writes i x && not (are_wired_together i j x)) h in
@@ -99,21 +59,21 @@ both_at i j x a h =
     record {
       place = is_other x p.0;
       first = q.0;
-      second = written j x (write_varies i x q.0) a;
+      second = writes_at j x (write_varies i x q.0) a;
       apart = not-true (are_wired_together i j x) q.1;
     }
 
 pub at_both : (i j : Op) (x : Place) → BothWriteAt i j x → both_write i j ≡ true
 at_both i j x w =
-    of_some (both_write_at i j) (destinations j) x (among_written j x w.second)
+    of_some (both_write_at i j) (destinations j) x (written_among j x w.second)
     (and_from (not (is_memory x)) (writes i x && not (are_wired_together i j x)) (not_memory x w.place)
     (and_from (writes i x) (not (are_wired_together i j x)) w.first (ap not w.apart)))
 
 pub feed_at : (a b : Guarded) (x : Place) → writes a.op x ≡ true → reads b x ≡ true → feeds a b ≡ true
-feed_at a b x w r = of_some (reads b) (destinations a.op) x (among_written a.op x w) r
+feed_at a b x w r = of_some (reads b) (destinations a.op) x (written_among a.op x w) r
 
 store_feeds : (a b : Guarded) → is_store a.op ≡ true → is_load b.op ≡ true → feeds a b ≡ true
-store_feeds a b s l = of_some (reads b) (destinations a.op) Memory (store_among a.op s) (load_reads b l)
+store_feeds a b s l = feed_at a b Memory (store_writes a.op s) (load_reads b.op l)
 
 module _ (ops : ℕ → Guarded) (t : Timing) (n : ℕ) (e : t.listed ≡ range_with_len 0 n) (i j : ℕ) (inside : i < n) (below : j < n) where
   abbrev read_new : Bool
@@ -132,13 +92,13 @@ module _ (ops : ℕ → Guarded) (t : Timing) (n : ℕ) (e : t.listed ≡ range_
   new_is h =
       let p = and_parts (feeds (ops i) (ops j)) (nat_le (lands ops t i) (t.at j)) h in
       let s = some_of (reads (ops j)) (destinations (ops i).op) p.0 in
-      read_before ops t i j s.place (written (ops i).op s.place (read_varies (ops j) s.place s.passes) s.among) s.passes (leb-true _ _ p.1)
+      read_before ops t i j s.place (writes_at (ops i).op s.place (read_varies (ops j) s.place s.passes) s.among) s.passes (leb-true _ _ p.1)
 
   old_is : read_old ≡ true → Before ops t i j
   old_is h =
       let p = and_parts (feeds (ops j) (ops i)) (nat_lt (t.at i) (lands ops t j)) h in
       let s = some_of (reads (ops i)) (destinations (ops j).op) p.0 in
-      old_before ops t i j s.place s.passes (written (ops j).op s.place (read_varies (ops i) s.place s.passes) s.among) (ltb-true _ _ p.1)
+      old_before ops t i j s.place s.passes (writes_at (ops j).op s.place (read_varies (ops i) s.place s.passes) s.among) (ltb-true _ _ p.1)
 
   both_is : write_both ≡ true → Before ops t i j
   both_is h =

@@ -114,7 +114,7 @@ filter_among p (x ∷ xs) k h = go (filter_among p xs k) (p x) refl h
     go f true e (inr a) = (inr (f a).0, (f a).1)
     go f false e a = (inr (f a).0, (f a).1)
 
-among_range_from : (a n k : ℕ) → a ≤ k → k < a + n → Among k (range_with_len a n)
+pub among_range_from : (a n k : ℕ) → a ≤ k → k < a + n → Among k (range_with_len a n)
 among_range_from a zero k low high = absurd (omega arith)
 among_range_from a (suc n) k low high = elim (cases_lt a k) [
   | inl h ↦ inr (among_range_from (a + 1) n k (omega arith) (omega arith))
