@@ -34,7 +34,7 @@ pub(crate) const ONES: Numbers = (4, [1, 1, 1, 3, 1], [1, 1, 1, 1, 1, 1, 1, 1, 1
 /// No unit of kind L.
 const BARE: Numbers = (2, [1, 1, 0, 1, 1], [1, 3, 8, 2, 1, 1, 1, 1, 1]);
 
-const BROKEN: [Refused; 36] = [
+const BROKEN: [Refused; 37] = [
     // The word 0.
     (
         T1,
@@ -299,6 +299,13 @@ const BROKEN: [Refused; 36] = [
         BlockRule::Landing,
         1,
     ),
+    // Two sums into one register under two guards, which don't count.
+    (
+        T2,
+        &[0x8008_8420_0000_0001, 0x0008_8820_0000_0002],
+        BlockRule::Landing,
+        1,
+    ),
     // One predicate, not wired.
     (
         ONES,
@@ -325,7 +332,7 @@ const BROKEN: [Refused; 36] = [
 ];
 
 /// Words without a serial order. The rule on that is told last.
-const UNORDERED: [Refused; 15] = [
+const UNORDERED: [Refused; 16] = [
     // Two registers swapped in one MultiOp.
     (
         T2,
@@ -343,6 +350,17 @@ const UNORDERED: [Refused; 15] = [
         &[
             0x901A_8020_0000_0000,
             0x9058_0040_0000_0000,
+            0xA0AA_0000_0000_0000,
+        ],
+        BlockRule::Cycle,
+        0,
+    ),
+    // The same with a load from another address: addresses don't count.
+    (
+        T3,
+        &[
+            0x901A_8020_0000_0000,
+            0x9058_0040_0000_0008,
             0xA0AA_0000_0000_0000,
         ],
         BlockRule::Cycle,
