@@ -135,6 +135,35 @@ fn first_fault_of_a_file(rt: HostRuntime) -> Result<(), Fail> {
     Ok(())
 }
 
+/// A header with the greatest numbers in the four fields that have limits: 256 pages, 131,072 blocks, 1,048,576 bytes of
+/// memory, and as many initial bytes.
+const GREATEST: [u8; 39] = [
+    0x54, 0x4e, 0x4b, 0x49, 0x00, 0x01, 0x01, 0x00, 0x00, 0x02, 0x00, 0x00, 0x00, 0x00, 0x00, 0x00,
+    0x00, 0x10, 0x00, 0x00, 0x00, 0x10, 0x00, 0x00, 0x02, 0x01, 0x01, 0x01, 0x01, 0x01, 0x01, 0x03,
+    0x08, 0x02, 0x01, 0x01, 0x01, 0x01, 0x01,
+];
+
+#[test]
+fn first_fault_of_the_greatest_header(rt: HostRuntime) -> Result<(), Fail> {
+    // The header as it is, and with each of the four numbers one above the greatest.
+    let cases = [
+        ((0, 0x54), FormatRule::Length, 0),
+        ((7, 1), FormatRule::Limits, 0),
+        ((11, 1), FormatRule::Limits, 1),
+        ((19, 1), FormatRule::Limits, 2),
+        ((23, 1), FormatRule::Limits, 3),
+    ];
+    for ((offset, value), rule, place) in cases {
+        let mut bytes = GREATEST.to_vec(rt.alloc())?;
+        if let Some(old) = bytes.get_mut(offset) {
+            *old = value;
+        }
+        let broken = Some(FormatFault::Broken(rule, place));
+        assert_eq!(rt; fault(rt.alloc(), &bytes), broken, "{offset}");
+    }
+    Ok(())
+}
+
 #[test]
 fn first_fault_of_a_cut_file(rt: HostRuntime) -> Result<(), Fail> {
     let cases = [
