@@ -5,11 +5,11 @@ use std::alloc::AllocError;
 /// A rule of a block table, by its title.
 #[derive(Clone, Copy, Debug, PartialEq, Eq)]
 pub enum TableRule {
-    /// F6: each row's count is at least 1, its entry is on a page, and it begins at or behind the end of the row before.
+    /// Each row's count is at least 1, its entry is on a page, and it begins at or behind the end of the row before.
     Table,
-    /// F7: each block ends on the page that it begins on.
+    /// Each block ends on the page that it begins on.
     PageCross,
-    /// F8: the program's entry is the entry of a row.
+    /// The program's entry is the entry of a row.
     Entry,
 }
 

@@ -1,5 +1,6 @@
 // Image files: their bytes taken apart into the parts of an image, and the parts written as bytes. The layer stands on
-// `machine_desc`, whose description a file carries.
+// `machine_desc`, whose description a file carries, on `operation` for the kinds that its numbers are told by, on `tnk_base`
+// for want of memory and the law on the bytes of numbers, and on `byteorder`.
 // Its contract promises the first broken rule of a file's form with its place, or the parts of its bytes
 // (specs/Rules.antt, specs/Image.antt), that what is written is read again, and that what is read and written again is the
 // same file (specs/Bytes.antt, specs/Laws.antt): so files are equal where their parts are the same. That the block table

@@ -1,8 +1,9 @@
 // The commands, over any host: the words of the command line, the steps of each command, the report and the refusals.
 //
-// It stands on `tnk_base` (the host), `operation` and `timed_meaning` (what a program means), and `byteorder`. `tinker` is
-// the whole of its surface. Its contract compares what was done to the host with `command` of specs/Command.antt, which
-// says for any words and files which calls are made, with which status the command ends and what text it puts out.
+// It stands on `tnk_base` (the host), `tnk_text` (numbers), `image_check` and `image_format` (which images are accepted, and
+// what they hold), `timed_meaning` and `operation` (what a program means), and `byteorder`. `tinker` is the whole of its
+// surface. Its contract compares what was done to the host with `command` of specs/Command.antt, which says for any words
+// and files which calls are made, with which status the command ends and what text it puts out.
 #![tactic(auto)]
 
 ghost use Rattle.std.specs.Prelude.{◌≡◌, ◌<◌, ◌⊎◌, ◌↔◌, map, string_bytes, IfOk, OnErr};
