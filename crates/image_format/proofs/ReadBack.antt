@@ -20,7 +20,7 @@ use Rattle.machine_desc.specs.Same.{unit_kinds, latency_kinds}
 use Rattle.image_format.specs.Laws.{IsRow, IsImage}
 use Rattle.image_format.proofs.Lists.{equal_parts}
 use Rattle.image_format.proofs.EqualParts.{equal, equal_rows}
-use Rattle.image_format.specs.Bytes.{sizes, row_bytes, contents, body, bytes_of}
+use Rattle.image_format.specs.Bytes.{sizes, row_bytes, body, bytes_of}
 
 -- things of one size, written one after another: what stands from the k-th on
 from_kth : {X : Type 0} (write : X → List ℕ) (size : ℕ) → ((x : X) → length (write x) ≡ size) → (xs : List X) (rest : List ℕ) (k : ℕ) (d : X) →
@@ -95,10 +95,6 @@ pub initial_read : (i : Image) → IsImage i → at.initial_size (bytes_of i) �
 initial_read i ok =
     number 4 (length i.init) (drop 20 (bytes_of i)) (body i) refl
     (let h = ok.limits.memory in let k = ok.limits.init in omega arith)
-
--- what follows the description
-contents_there : (i : Image) → drop 39 (bytes_of i) ≡ contents i
-contents_there i = refl
 
 rows_read : (i : Image) → IsImage i → at.rows (at.blocks (bytes_of i)) (drop 39 (bytes_of i)) ≡ i.rows
 rows_read i ok =

@@ -13,10 +13,6 @@ one_zero : (t : Bool) → one_where t ≡ 0 → t ≡ false
 one_zero true e = absurd (omega arith)
 one_zero false e = refl
 
-one_positive : (t : Bool) → 0 < one_where t → t ≡ true
-one_positive true h = refl
-one_positive false h = absurd (omega arith)
-
 and_not_true : (t p : Bool) → t ≡ true → (t && not p) ≡ false → p ≡ true
 and_not_true t true e f = refl
 and_not_true true false e f = absurd (let k : ⊥ = cc in k)

@@ -5,7 +5,7 @@ use Rattle.std.specs.Int.{byte_at, bytes_high_first}
 use Rattle.std.proofs.Math.Nat.{div-one, mul_assoc, mul-add-div_right, mul-add-mod_self_right, one-le-pow, pow-suc}
 use Rattle.std.proofs.lemmas.Bool.{cases_lt}
 use Rattle.std.proofs.lemmas.Nat.{pow-add, div-mul-add}
-use Rattle.std.proofs.lemmas.List.{take_all, length-drop, get_or_past}
+use Rattle.std.proofs.lemmas.List.{length-drop, get_or_past}
 use Rattle.std.proofs.lemmas.List.Elements.{All-drop}
 use Rattle.byteorder.specs.Endian.{big_number, big_bytes, big_from}
 use Rattle.byteorder.specs.Numbers.{big_from-cons, big_from-lt}
@@ -68,10 +68,6 @@ written_again (suc n) (b ∷ bytes) there all =
     ap (bytes_high_first (suc n)) e
     ∙ ap (λ (x : ℕ). x ∷ bytes_high_first n (b * 256 ^ n + rest)) (top_byte n b rest (all 0 0 (omega arith)) small)
     ∙ ap (λ (xs : List ℕ). b ∷ xs) (same_bytes n n b rest (omega arith) ∙ written_again n bytes (omega arith) below)
-
--- the same of all the bytes
-pub all_written_again : (bytes : List ℕ) → All (λ b. b < 256) bytes → big_bytes (length bytes) (big_number (length bytes) bytes) ≡ bytes
-all_written_again bytes all = written_again (length bytes) bytes (omega arith) all ∙ take_all (length bytes) bytes (omega arith)
 
 -- the same of n bytes that stand behind others
 pub written_again_at : (n offset : ℕ) (bytes : List ℕ) → offset + n ≤ length bytes → All (λ b. b < 256) bytes →
