@@ -7,6 +7,12 @@ use byteorder::{BigEndian, ByteOrder};
 /// The bytes of a file before its rows.
 pub const HEADER: usize = 39;
 
+/// The words of a page.
+pub const PAGE: usize = 512;
+
+/// The bytes of a page.
+pub const PAGE_BYTES: usize = 8 * PAGE;
+
 pub fn short_number(bytes: &[u8], offset: usize) -> u16
     requires { offset + 2 ≤ length bytes.now }
     ensures { result ≡ number_at 2 offset bytes.now }

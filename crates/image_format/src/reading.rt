@@ -9,7 +9,7 @@ ghost use Rattle.image_format.specs.Bytes.{bytes_of};
 ghost use Rattle.image_format.specs.Rules.{first_broken as first_broken_rule, IsFormatFault};
 ghost use Rattle.image_format.specs.Kept.{IsKept};
 
-use super::numbers::{HEADER, latencies, number, short_number, units};
+use super::numbers::{HEADER, PAGE, latencies, number, short_number, units};
 use super::rules::first_broken;
 use super::{FormatFault, Parts, Row};
 use byteorder::{BigEndian, ByteOrder};
@@ -89,7 +89,7 @@ fn code(alloc: Global, bytes: &[u8]) -> Result<Vec<u64>, AllocError>
     requires { IsKept bytes.now }
     ensures { IfOk result (λ words. words.items ≡ (image_in bytes.now).words) }
 {
-    let count = 512 * short_number(bytes, 6) as usize;
+    let count = PAGE * short_number(bytes, 6) as usize;
     let offset = initial_offset(bytes) + number(bytes, 20) as usize;
     words(alloc, &bytes[offset..], count)
 }

@@ -5,7 +5,7 @@ ghost use Rattle.image_format.specs.Layout.{given_length as length_in_header};
 ghost use Rattle.image_format.specs.Rules.{magic as magic_rule, version_one as version_rule, limits as limits_rule, length_given as length_rule, description as description_rule, is_number_in_range, unless_kept as place_unless_kept, first_broken as first_broken_rule};
 
 use super::FormatRule;
-use super::numbers::{HEADER, number, short_number};
+use super::numbers::{HEADER, PAGE, PAGE_BYTES, number, short_number};
 
 /// The most bytes of data memory.
 const MEMORY_LIMIT: u32 = 1_048_576;
@@ -45,7 +45,7 @@ fn limits(bytes: &[u8]) -> Option<u32>
     let memory = number(bytes, 16);
     if !is_between(1, 256, pages) {
         Some(0)
-    } else if !is_between(1, 512 * pages, number(bytes, 8)) {
+    } else if !is_between(1, PAGE as u32 * pages, number(bytes, 8)) {
         Some(1)
     } else if memory > MEMORY_LIMIT {
         Some(2)
@@ -62,7 +62,7 @@ fn given_length(bytes: &[u8]) -> usize
 {
     let pages = short_number(bytes, 6) as usize;
     let blocks = number(bytes, 8) as usize;
-    HEADER + 6 * blocks + number(bytes, 20) as usize + 4096 * pages
+    HEADER + 6 * blocks + number(bytes, 20) as usize + PAGE_BYTES * pages
 }
 
 fn length(bytes: &[u8]) -> Option<u32>

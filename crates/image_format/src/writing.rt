@@ -8,6 +8,7 @@ ghost use Rattle.image_format.specs.Parts.{image_of};
 ghost use Rattle.image_format.specs.Laws.{IsRow, HasRanges, HoldsImage};
 ghost use Rattle.image_format.specs.Bytes.{sizes, header as header_of, description_bytes, row_bytes, contents, body, bytes_of};
 
+use super::numbers::{HEADER, PAGE};
 use super::{Parts, Row};
 use machine_desc::{Generation, Mdes};
 use operation::{LatKind, UnitKind};
@@ -106,7 +107,7 @@ fn push_header(bytes: &mut Vec<u8>, parts: &Parts) -> Result<(), AllocError>
     ensures bytes { OnOk result (bytes.new.items ≡ bytes.old.items ++ header_of (image_of parts.now)) }
     ensures entry { OnOk result (parts.now.entry < 2 ^ 32) }
 {
-    push_begin(bytes, (parts.words.len() / 512) as u16)?;
+    push_begin(bytes, (parts.words.len() / PAGE) as u16)?;
     push_sizes(bytes, parts)
 }
 
@@ -138,7 +139,7 @@ fn push_body(bytes: &mut Vec<u8>, parts: &Parts) -> Result<(), AllocError>
 fn file_length(parts: &Parts) -> usize
     requires { IsWithinLimits (image_of parts.now) }
 {
-    39 + 6 * parts.rows.len() + parts.init.len() + 8 * parts.words.len()
+    HEADER + 6 * parts.rows.len() + parts.init.len() + 8 * parts.words.len()
 }
 
 /// The bytes of an image file with these parts, version 1. Read again, they give the parts.
