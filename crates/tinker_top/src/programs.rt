@@ -601,31 +601,48 @@ fn programs_end_at_their_bound(rt: HostRuntime) -> Result<(), Fail> {
     Ok(())
 }
 
-// Images that `check` accepts or refuses.
+// Images that `check` accepts.
 #[test]
-fn checked_images(rt: HostRuntime) -> Result<(), Fail> {
+fn accepted_images(rt: HostRuntime) -> Result<(), Fail> {
     let alloc = rt.alloc();
-    let cases: [(&Image, u8, &str); 10] = [
-        (&ECHO, 0, "accepted x pages 1 blocks 1 words 3\n"),
-        (&CHOSEN, 0, "accepted x pages 1 blocks 4 words 8\n"),
-        (&AT_THE_END, 0, "accepted x pages 1 blocks 1 words 2\n"),
-        (&WIRED, 0, "accepted x pages 1 blocks 1 words 6\n"),
-        (&AT_ODDS, 1, "refused x B11 Landing block 0 op 1\n"),
-        (&EARLY_END, 1, "refused x B9 BranchEnd block 0 op 0\n"),
-        (
-            &LATE_COMPARE,
-            1,
-            "refused x B10 BranchShadow block 0 op 2\n",
-        ),
-        (&SWAPPED, 1, "refused x B12 Cycle block 0 op 0\n"),
-        (&EARLY_LOAD, 1, "refused x B12 Cycle block 0 op 0\n"),
-        (&OLD_VALUE, 0, "accepted x pages 1 blocks 1 words 6\n"),
+    let cases: [(&Image, &str); 5] = [
+        (&ECHO, "accepted x pages 1 blocks 1 words 3\n"),
+        (&CHOSEN, "accepted x pages 1 blocks 4 words 8\n"),
+        (&AT_THE_END, "accepted x pages 1 blocks 1 words 2\n"),
+        (&WIRED, "accepted x pages 1 blocks 1 words 6\n"),
+        (&OLD_VALUE, "accepted x pages 1 blocks 1 words 6\n"),
     ];
-    for (image, answer, line) in cases {
+    for (image, line) in cases {
         let x = image.bytes(alloc)?;
         let (status, host) = done(alloc, &x, b"", &[], &["check", "x"])?;
-        assert_eq!(rt; status, answer, "{line}");
+        assert_eq!(rt; status, 0, "{line}");
         assert_eq!(rt; host.out(), line.as_bytes(), "{line}");
+    }
+    Ok(())
+}
+
+// Images that each command refuses.
+#[test]
+fn refused_images(rt: HostRuntime) -> Result<(), Fail> {
+    let alloc = rt.alloc();
+    let cases: [(&Image, &str); 5] = [
+        (&EARLY_END, "refused x B9 BranchEnd block 0 op 0\n"),
+        (&LATE_COMPARE, "refused x B10 BranchShadow block 0 op 2\n"),
+        (&AT_ODDS, "refused x B11 Landing block 0 op 1\n"),
+        (&SWAPPED, "refused x B12 Cycle block 0 op 0\n"),
+        (&EARLY_LOAD, "refused x B12 Cycle block 0 op 0\n"),
+    ];
+    for (image, line) in cases {
+        let commands: [&[&str]; 3] = [
+            &["check", "x"],
+            &["meaning", "x", "-"],
+            &["run", "x", "own", "-"],
+        ];
+        for words in commands {
+            let (status, host) = done(alloc, &image.bytes(alloc)?, b"", &[], words)?;
+            assert_eq!(rt; status, 1, "{line}");
+            assert_eq!(rt; host.out(), line.as_bytes(), "{line}");
+        }
     }
     Ok(())
 }
