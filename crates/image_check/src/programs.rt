@@ -9,7 +9,7 @@ ghost use Rattle.image_check.specs.Paging.{AreBlocksBelow};
 ghost use Rattle.image_check.specs.Accepted.{IsAccepted};
 
 use super::accepted::Accepted;
-use block_table::Table;
+use block_table::{PAGE, Table};
 use latency_deps::GoodBlock;
 use std::alloc::{AllocError, Global};
 use timed_meaning::{Program, TimedBlock, TimedOp};
@@ -77,7 +77,7 @@ fn push_page(
 fn timed_blocks(alloc: Global, a: &Accepted) -> Result<Vec<TimedBlock>, AllocError>
     ensures { IfOk result (λ blocks. map block_of blocks.items ≡ map (block_in_program (image_in a.now)) (row_numbers (image_in a.now))) }
 {
-    let pages = (a.parts().words.len() / 512) as u16;
+    let pages = (a.parts().words.len() / PAGE as usize) as u16;
     let mut blocks = Vec::with_capacity(alloc, a.table().rows() as usize)?;
     for n in 0..pages {
         push_page(alloc, a, n, &mut blocks)?;
