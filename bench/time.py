@@ -2,8 +2,8 @@
 
 Each line tells the command, the seconds of the quickest of five runs, and the most memory that it took as a multiple of
 its file. The last line compares the check of an image of many pairs of operations with plain.rs, plain Rust that does the
-search for orders alone; it wants `rustc`. The images are written by another process, so that this one stays small: the system counts its memory, some
-10 million bytes, as the least that a child takes.
+search for orders alone; it wants `rustc`. The images are written by another process, so that this one stays small: the
+system counts its memory, some 10 million bytes, as the least that a child takes.
 """
 
 import os

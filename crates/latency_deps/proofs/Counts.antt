@@ -11,8 +11,8 @@ use Rattle.list_encoding.specs.Times.{word_pace}
 use Rattle.list_encoding.proofs.Bounds.{issues_rise}
 use Rattle.latency_deps.specs.Timing.{own_timing}
 use Rattle.latency_deps.specs.Issue.{same_unit, issuing, issuing_on}
-use Rattle.latency_deps.specs.Tests.{up_to}
-use Rattle.latency_deps.specs.Asked.{last_up_to}
+use Rattle.latency_deps.specs.Breaks.{up_to}
+use Rattle.latency_deps.specs.CandidateRules.{last_up_to}
 
 -- cycles that rise
 pub record Rise (at : ℕ → ℕ) : Type 0 where

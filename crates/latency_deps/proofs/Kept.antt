@@ -18,7 +18,7 @@ use Rattle.latency_deps.specs.Timing.{ops_of, own_timing}
 use Rattle.latency_deps.specs.Rules.{least_breaking, first_among, first_broken, end_of}
 use Rattle.latency_deps.specs.Block.{Block, IsGood, block_in, block_with}
 use Rattle.latency_deps.specs.Candidate.{AreTimed, word_op}
-use Rattle.latency_deps.specs.Asked.{rules_on_times}
+use Rattle.latency_deps.specs.CandidateRules.{rules_on_times}
 
 -- the rules on times, and behind them the rule on order
 abbrev rules_from_times : List BlockRule

@@ -1,6 +1,5 @@
 -- lemmas
 pub mod Items
-pub mod Search
 pub mod Counts
 pub mod Shadow
 pub mod Opened

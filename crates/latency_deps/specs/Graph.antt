@@ -1,4 +1,4 @@
--- The operations of a block two by two, by what is computed once for each.
+-- The operations of a block two by two, by what is computed once for each. For contracts within the crate.
 use Rattle.std.specs.Prelude.{ℕ, ◌≡◌, ◌≤◌, ◌<◌, ◌^◌, Bool, not, ◌&&◌, ◌||◌, if◌then◌else◌, nat_eq, nat_lt, nat_le, List, length, map, slice_index_or, Option, Some, None, ℤ, pos, negsuc, ◌+ℤ◌, ◌-ℤ◌}
 use Rattle.std.specs.Int.{int_max}
 use Rattle.operation.specs.declared.LatKind.{LatKind}

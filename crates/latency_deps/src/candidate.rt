@@ -1,7 +1,7 @@
 // Words with their operations and times. Each rule has a method that answers the least operation that breaks it.
 ghost use Rattle.std.specs.Prelude.{◌≡◌};
 ghost use Rattle.machine_desc.specs.Value.{description_of};
-ghost use Rattle.latency_deps.specs.Tests.{prepares_elsewhere as prepares_no_entry, is_at_odds as has_odds};
+ghost use Rattle.latency_deps.specs.Breaks.{prepares_elsewhere as prepares_no_entry, is_at_odds as has_odds};
 ghost use Rattle.latency_deps.specs.Candidate.{AreTimed};
 ghost use Rattle.latency_deps.specs.Graph.{AreNodes};
 
@@ -54,10 +54,10 @@ impl Candidate<'_> {
     ghost use Rattle.std.specs.List.{range_with_len, list_any};
     ghost use Rattle.latency_deps.specs.declared.rules.BlockRule.TheVariants as rule;
     ghost use Rattle.two_timings.specs.Timing.{lands as lands_by};
-    ghost use Rattle.latency_deps.specs.Tests.{below, unit_of, is_branch_at, shadows as is_shadowing, both_write as write_both, lands_with as lands_together};
+    ghost use Rattle.latency_deps.specs.Breaks.{below, unit_of, is_branch_at, shadows as is_shadowing, both_write as write_both, lands_with as lands_together};
     ghost use Rattle.latency_deps.specs.Before.{feeds as is_fed};
     ghost use Rattle.latency_deps.specs.Rules.{first_among};
-    ghost use Rattle.latency_deps.specs.Asked.{ops_in, timing_in, node_in, shares_units as share_units, last_up_to, breaks_in, least_in, rules_on_times};
+    ghost use Rattle.latency_deps.specs.CandidateRules.{ops_in, timing_in, node_in, shares_units as share_units, last_up_to, breaks_in, least_in, rules_on_times};
 
     fn count(&self) -> u16
         ensures { result ≡ length self.now.words.now }
@@ -184,7 +184,7 @@ impl Candidate<'_> {
         (0..k).any(|i| self.is_branch(i))
     }
 
-    #[tactic(auto, unfolding(crate::specs::Asked::breaks_in))]
+    #[tactic(auto, unfolding(crate::specs::CandidateRules::breaks_in))]
     fn is_second_branch(&self, k: u16) -> bool
         requires { k < length self.now.words.now }
         ensures { result ≡ breaks_in self.now rule.SecondBranch k }
@@ -199,7 +199,7 @@ impl Candidate<'_> {
         (0..self.count()).find(|k| self.is_second_branch(*k))
     }
 
-    #[tactic(auto, unfolding(crate::specs::Asked::breaks_in))]
+    #[tactic(auto, unfolding(crate::specs::CandidateRules::breaks_in))]
     fn prepares_elsewhere(&self, k: u16) -> bool
         requires { k < length self.now.words.now }
         ensures { result ≡ breaks_in self.now rule.Target k }
@@ -214,7 +214,7 @@ impl Candidate<'_> {
         (0..self.count()).find(|k| self.prepares_elsewhere(*k))
     }
 
-    #[tactic(auto, unfolding(crate::specs::Asked::breaks_in))]
+    #[tactic(auto, unfolding(crate::specs::CandidateRules::breaks_in))]
     fn lands_late(&self, k: u16) -> bool
         requires { k < length self.now.words.now }
         ensures { result ≡ breaks_in self.now rule.Drain k }
@@ -229,7 +229,7 @@ impl Candidate<'_> {
         (0..self.count()).find(|k| self.lands_late(*k))
     }
 
-    #[tactic(auto, unfolding(crate::specs::Asked::breaks_in))]
+    #[tactic(auto, unfolding(crate::specs::CandidateRules::breaks_in))]
     fn misses_end(&self, k: u16) -> bool
         requires { k < length self.now.words.now }
         ensures { result ≡ breaks_in self.now rule.BranchEnd k }
@@ -261,7 +261,7 @@ impl Candidate<'_> {
         self.feeds(k, branch) && self.at(branch) < self.lands(k)
     }
 
-    #[tactic(auto, unfolding(crate::specs::Asked::breaks_in))]
+    #[tactic(auto, unfolding(crate::specs::CandidateRules::breaks_in))]
     fn is_in_shadow(&self, branch: u16, k: u16) -> bool
         requires one { least_in self.now rule.SecondBranch ≡ None }
         requires branch { branch < length self.now.words.now }
@@ -308,7 +308,7 @@ impl Candidate<'_> {
         (0..k).any(|i| self.lands_with(k, i))
     }
 
-    #[tactic(auto, unfolding(crate::specs::Asked::breaks_in))]
+    #[tactic(auto, unfolding(crate::specs::CandidateRules::breaks_in))]
     fn clashes(&self, k: u16) -> bool
         requires { k < length self.now.words.now }
         ensures { result ≡ breaks_in self.now rule.Landing k }

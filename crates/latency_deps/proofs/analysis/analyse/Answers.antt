@@ -8,10 +8,10 @@ use Rattle.serial_order.specs.SerialOrder.{first_stuck}
 use Rattle.latency_deps.specs.declared.graph.Node.{Node}
 use Rattle.latency_deps.specs.declared.rules.BlockRule.TheVariants as rule
 use Rattle.latency_deps.specs.Timing.{ops_of}
-use Rattle.latency_deps.specs.Tests.{breaks_unit, breaks_head}
+use Rattle.latency_deps.specs.Breaks.{breaks_unit, breaks_head}
 use Rattle.latency_deps.specs.Rules.{least_of, least_breaking, first_among, first_broken}
 use Rattle.latency_deps.specs.Candidate.{AreTimed}
-use Rattle.latency_deps.specs.Asked.{breaks_in, rules_on_times}
+use Rattle.latency_deps.specs.CandidateRules.{breaks_in, rules_on_times}
 use Rattle.latency_deps.specs.Graph.{AreNodes, AreShort, AreDelays}
 use Rattle.latency_deps.proofs.Kept.{KeepsFirst, at_unit, at_head, on_times, on_order, built, described, made_good}
 use Rattle.latency_deps.proofs.Graphs.{as_many_nodes, op_delays, short_nodes}

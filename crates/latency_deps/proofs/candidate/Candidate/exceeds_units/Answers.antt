@@ -2,9 +2,9 @@ use Rattle.std.proofs.Common.{ap, sym, length}
 use Rattle.std.specs.Prelude.{nat_lt}
 use Rattle.machine_desc.specs.Value.{description_of}
 use Rattle.latency_deps.specs.Timing.{own_timing, ops_of}
-use Rattle.latency_deps.specs.Tests.{unit_of, breaks_width}
-use Rattle.latency_deps.specs.Asked.{breaks_in}
-use Rattle.latency_deps.proofs.Search.{none_at}
+use Rattle.latency_deps.specs.Breaks.{unit_of, breaks_width}
+use Rattle.latency_deps.specs.CandidateRules.{breaks_in}
+use Rattle.tnk_base.proofs.Searches.{none_at}
 use Rattle.latency_deps.proofs.Counts.{own_rise, units_law}
 use Rattle.latency_deps.proofs.candidate.Candidate.exceeds_units.Goals as goal
 

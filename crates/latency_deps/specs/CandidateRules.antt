@@ -1,4 +1,4 @@
--- What the rules say of a candidate's words.
+-- What the rules say of a candidate's words. For contracts within the crate.
 use Rattle.std.specs.Prelude.{ℕ, ◌+◌, ◌-◌, Bool, ◌&&◌, nat_eq, Option, List, [], ◌∷◌}
 use Rattle.std.specs.List.{range_with_len}
 use Rattle.operation.specs.declared.Guarded.{Guarded}
@@ -10,7 +10,7 @@ use Rattle.latency_deps.specs.declared.graph.Node.{Node}
 use Rattle.two_timings.specs.Timing.{Timing, timed}
 use Rattle.latency_deps.specs.Timing.{ops_of, own_timing}
 use Rattle.latency_deps.specs.Issue.{same_unit}
-use Rattle.latency_deps.specs.Tests.{unit_of}
+use Rattle.latency_deps.specs.Breaks.{unit_of}
 use Rattle.latency_deps.specs.Rules.{breaks, least_of}
 use Rattle.latency_deps.specs.Graph.{node}
 
