@@ -19,7 +19,7 @@ pub mod places;
 mod tests;
 
 pub use effects::evaluate;
-pub use kinds::{can_trap, is_branch, is_inb, is_load, is_store, lat_kind, unit};
+pub use kinds::{can_trap, is_branch, is_inb, lat_kind, unit};
 pub use places::{is_constant, reads, wired, writes};
 
 /// The arithmetic of a register operation. All results are taken modulo 2^32.

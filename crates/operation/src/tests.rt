@@ -534,40 +534,25 @@ fn operands_and_destinations(rt: HostRuntime) {
 
 #[test]
 fn tests_of_kinds(rt: HostRuntime) {
-    // Whether it is a branch, a store, a load and an `inb`, and whether it can trap.
+    // Whether it is a branch and an `inb`, and whether it can trap.
     let cases = [
-        (
-            Op::Alu(AluKind::Add, 3, 1, 2),
-            (false, false, false, false, false),
-        ),
-        (Op::Mul(3, 1, 2), (false, false, false, false, false)),
-        (Op::Div(3, 1, 2), (false, false, false, false, true)),
-        (Op::Rem(3, 1, 2), (false, false, false, false, true)),
-        (
-            Op::Load(Size::Byte, 3, 1, 2),
-            (false, false, true, false, true),
-        ),
-        (
-            Op::Store(Size::Byte, 3, 1, 2),
-            (false, true, false, false, true),
-        ),
-        (Op::Inb(1), (false, false, false, true, false)),
-        (Op::Outb(1), (false, false, false, false, true)),
-        (Op::Pbr(1, 2), (false, false, false, false, false)),
-        (Op::Bru(1), (true, false, false, false, false)),
-        (Op::Brct(1, 2), (true, false, false, false, false)),
-        (Op::Brcf(1, 2), (true, false, false, false, false)),
-        (Op::Brl(1, 2), (true, false, false, false, false)),
-        (Op::Halt(1), (true, false, false, false, false)),
+        (Op::Alu(AluKind::Add, 3, 1, 2), (false, false, false)),
+        (Op::Mul(3, 1, 2), (false, false, false)),
+        (Op::Div(3, 1, 2), (false, false, true)),
+        (Op::Rem(3, 1, 2), (false, false, true)),
+        (Op::Load(Size::Byte, 3, 1, 2), (false, false, true)),
+        (Op::Store(Size::Byte, 3, 1, 2), (false, false, true)),
+        (Op::Inb(1), (false, true, false)),
+        (Op::Outb(1), (false, false, true)),
+        (Op::Pbr(1, 2), (false, false, false)),
+        (Op::Bru(1), (true, false, false)),
+        (Op::Brct(1, 2), (true, false, false)),
+        (Op::Brcf(1, 2), (true, false, false)),
+        (Op::Brl(1, 2), (true, false, false)),
+        (Op::Halt(1), (true, false, false)),
     ];
     for (op, want) in cases {
-        let found = (
-            is_branch(&op),
-            is_store(&op),
-            is_load(&op),
-            is_inb(&op),
-            can_trap(&op),
-        );
+        let found = (is_branch(&op), is_inb(&op), can_trap(&op));
         assert_eq!(rt; found, want, "{op:?}");
     }
     assert!(rt; is_constant(Place::General(0)) && is_constant(Place::Predicate(0)));
