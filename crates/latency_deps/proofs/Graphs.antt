@@ -1,5 +1,5 @@
 -- The nodes of a block's operations, and the table of their delays.
-use Rattle.std.proofs.Common.{◌≡◌, ℕ, ◌+◌, ◌<◌, ◌≤◌, Bool, true, false, cond, ◌⊎◌, inl, inr, List, length, sym, ap, subst, ◌∙◌, Option, Some, None, arith}
+use Rattle.std.proofs.Common.{◌≡◌, ℕ, ◌+◌, ◌<◌, ◌≤◌, min, Bool, true, false, cond, ◌⊎◌, inl, inr, List, length, sym, ap, subst, ◌∙◌, Option, Some, None, arith}
 use Rattle.std.specs.Prelude.{is_some, IfSome, ℤ, pos, negsuc, ◌≤ℤ◌}
 use Rattle.std.proofs.lemmas.Bool.{cases_lt}
 use Rattle.std.proofs.lemmas.List.{length-map, get_or-map}
@@ -16,77 +16,84 @@ use Rattle.latency_deps.specs.declared.graph.Node.{Node}
 use Rattle.latency_deps.specs.Before.{comes_before, delay_between, applying, greatest}
 use Rattle.latency_deps.specs.Block.{Block, IsGood, timed_at, block_with}
 use Rattle.latency_deps.specs.Delays.{before_in, delay_in, IsDelayTable}
-use Rattle.latency_deps.specs.Graph.{node, node_at, op_at, delay_of_nodes, AreNodes, AreShort, AreDelays}
+use Rattle.latency_deps.specs.Graph.{node, node_at, op_at, delay_of_nodes, delay_at, AreNodes, AreShort, AreDelays}
 use Rattle.latency_deps.proofs.Nodes.{delay_law, delay_there, greatest_short, IsShort}
+use Rattle.latency_deps.proofs.Pairs.{none_before_itself}
 use Rattle.latency_deps.proofs.GoodOrders.{none_stuck}
 use Rattle.latency_deps.proofs.BranchLast.{branch_last}
 
--- the first m delays of the row i are there, and nothing else has changed
-pub record FilledTo (nodes : List Node) (i m : ℕ) (old d : Table) : Type 0 where
+-- the entries of i and those between it and m are there, and nothing else has changed
+pub record PairsTo (nodes : List Node) (i m : ℕ) (old d : Table) : Type 0 where
   pub count : d.count ≡ old.count
-  pub here : (j : ℕ) → j < m → delay_of d i j ≡ delay_of_nodes i j (node_at nodes i) (node_at nodes j)
-  pub left : (j : ℕ) → m ≤ j → delay_of d i j ≡ None
-  pub elsewhere : (k j : ℕ) → (k ≡ i → ⊥) → delay_of d k j ≡ delay_of old k j
+  pub here : (j : ℕ) → i < j → j < m → (delay_of d i j ≡ delay_at nodes i j) × (delay_of d j i ≡ delay_at nodes j i)
+  pub left : (j : ℕ) → i < j → m ≤ j → (delay_of d i j ≡ None) × (delay_of d j i ≡ None)
+  pub elsewhere : (k l : ℕ) → (k ≡ i → i < l → ⊥) → (l ≡ i → i < k → ⊥) → delay_of d k l ≡ delay_of old k l
 
-pub fill_none :
-    (nodes : List Node) (i m : ℕ) (old d : Table) → FilledTo nodes i m old d → delay_of_nodes i m (node_at nodes i) (node_at nodes m) ≡ None →
-    FilledTo nodes i (m + 1) old d
-fill_none nodes i m old d f none = record {
-  count = f.count;
-  here = λ j below. go j (cases_lt j m) below;
-  left = λ j above. f.left j (omega arith);
-  elsewhere = f.elsewhere;
+-- one pair more
+pub more_pairs :
+    (nodes : List Node) (i m : ℕ) (old d new : Table) → PairsTo nodes i m old d → i < m → new.count ≡ d.count →
+    delay_of new i m ≡ delay_at nodes i m → delay_of new m i ≡ delay_at nodes m i →
+    ((k l : ℕ) → (k ≡ i → l ≡ m → ⊥) → (k ≡ m → l ≡ i → ⊥) → delay_of new k l ≡ delay_of d k l) → PairsTo nodes i (m + 1) old new
+more_pairs nodes i m old d new p behind count forth back others = record {
+  count = count ∙ p.count;
+  here = λ j after below. go j (cases_lt j m) after below;
+  left = λ j after above.
+      let stood = p.left j after (omega arith) in (
+        others i j (λ e f. absurd (omega arith)) (λ e f. absurd (omega arith)) ∙ stood.0,
+        others j i (λ e f. absurd (omega arith)) (λ e f. absurd (omega arith)) ∙ stood.1,
+      );
+  elsewhere = λ k l row column.
+      others k l (λ e f. row e (omega arith)) (λ e f. column f (omega arith)) ∙ p.elsewhere k l row column;
 }
   where
-    go : (j : ℕ) → (j < m) ⊎ (m ≤ j) → j < m + 1 → delay_of d i j ≡ delay_of_nodes i j (node_at nodes i) (node_at nodes j)
-    go j (inl low) below = f.here j low
-    go j (inr high) below =
+    go : (j : ℕ) → (j < m) ⊎ (m ≤ j) → i < j → j < m + 1 → (delay_of new i j ≡ delay_at nodes i j) × (delay_of new j i ≡ delay_at nodes j i)
+    go j (inl low) after below =
+        let stood = p.here j after low in (
+          others i j (λ e f. absurd (omega arith)) (λ e f. absurd (omega arith)) ∙ stood.0,
+          others j i (λ e f. absurd (omega arith)) (λ e f. absurd (omega arith)) ∙ stood.1,
+        )
+    go j (inr high) after below =
         let same : m ≡ j = omega arith in
-        subst (λ (k : ℕ). delay_of d i k ≡ delay_of_nodes i k (node_at nodes i) (node_at nodes k)) same (f.left m (omega arith) ∙ sym none)
+        subst (λ (k : ℕ). (delay_of new i k ≡ delay_at nodes i k) × (delay_of new k i ≡ delay_at nodes k i)) same (forth, back)
 
-pub fill_some :
-    (nodes : List Node) (i m : ℕ) (old d new : Table) (delay : ℤ) → FilledTo nodes i m old d →
-    delay_of_nodes i m (node_at nodes i) (node_at nodes m) ≡ Some delay → new.count ≡ d.count → delay_of new i m ≡ Some delay →
-    ((a b : ℕ) → (a ≡ i → b ≡ m → ⊥) → delay_of new a b ≡ delay_of d a b) → FilledTo nodes i (m + 1) old new
-fill_some nodes i m old d new delay f some count set others = record {
-  count = count ∙ f.count;
-  here = λ j below. go j (cases_lt j m) below;
-  left = λ j above. others i j (λ e g. absurd (omega arith)) ∙ f.left j (omega arith);
-  elsewhere = λ k j ne. others k j (λ e g. ne e) ∙ f.elsewhere k j ne;
-}
-  where
-    go : (j : ℕ) → (j < m) ⊎ (m ≤ j) → j < m + 1 → delay_of new i j ≡ delay_of_nodes i j (node_at nodes i) (node_at nodes j)
-    go j (inl low) below = others i j (λ e g. absurd (omega arith)) ∙ f.here j low
-    go j (inr high) below =
-        let same : m ≡ j = omega arith in
-        subst (λ (k : ℕ). delay_of new i k ≡ delay_of_nodes i k (node_at nodes i) (node_at nodes k)) same (set ∙ sym some)
-
--- the rows below m are there, and no other
-pub record RowsTo (nodes : List Node) (n m : ℕ) (d : Table) : Type 0 where
+-- the entries of each pair with one below m are there, and no other
+pub record TableTo (nodes : List Node) (n m : ℕ) (d : Table) : Type 0 where
   pub count : d.count ≡ n
-  pub here : (i j : ℕ) → i < m → j < n → delay_of d i j ≡ delay_of_nodes i j (node_at nodes i) (node_at nodes j)
-  pub left : (i j : ℕ) → m ≤ i → delay_of d i j ≡ None
+  pub here : (i j : ℕ) → i < n → j < n → min i j < m → delay_of d i j ≡ delay_at nodes i j
+  pub left : (i j : ℕ) → m ≤ i → m ≤ j → delay_of d i j ≡ None
 
+-- the pairs of one operation more
 pub more_rows :
-    (nodes : List Node) (n m : ℕ) (d new : Table) → RowsTo nodes n m d → new.count ≡ d.count →
-    ((j : ℕ) → j < d.count → delay_of new m j ≡ delay_of_nodes m j (node_at nodes m) (node_at nodes j)) →
-    ((k j : ℕ) → (k ≡ m → ⊥) → delay_of new k j ≡ delay_of d k j) → RowsTo nodes n (m + 1) new
-more_rows nodes n m d new r count row others = record {
-  count = count ∙ r.count;
-  here = λ i j below inside. go i j (cases_lt i m) below inside;
-  left = λ i j above. others i j (λ e. absurd (omega arith)) ∙ r.left i j (omega arith);
+    (nodes : List Node) (n m : ℕ) (d new : Table) → TableTo nodes n m d → new.count ≡ d.count →
+    ((j : ℕ) → m < j → j < d.count → (delay_of new m j ≡ delay_at nodes m j) × (delay_of new j m ≡ delay_at nodes j m)) →
+    ((k l : ℕ) → (k ≡ m → m < l → ⊥) → (l ≡ m → m < k → ⊥) → delay_of new k l ≡ delay_of d k l) → TableTo nodes n (m + 1) new
+more_rows nodes n m d new t count pairs others = record {
+  count = count ∙ t.count;
+  here = λ i j inside below low. go i j (cases_lt (min i j) m) (cases_lt m i) (cases_lt m j) inside below low;
+  left = λ i j row column. others i j (λ e f. absurd (omega arith)) (λ e f. absurd (omega arith)) ∙ t.left i j (omega arith) (omega arith);
 }
   where
-    go : (i j : ℕ) → (i < m) ⊎ (m ≤ i) → i < m + 1 → j < n → delay_of new i j ≡ delay_of_nodes i j (node_at nodes i) (node_at nodes j)
-    go i j (inl low) below inside = others i j (λ e. absurd (omega arith)) ∙ r.here i j low inside
-    go i j (inr high) below inside =
+    go : (i j : ℕ) → (min i j < m) ⊎ (m ≤ min i j) → (m < i) ⊎ (i ≤ m) → (m < j) ⊎ (j ≤ m) → i < n → j < n → min i j < m + 1 →
+        delay_of new i j ≡ delay_at nodes i j
+    go i j (inl before) _ _ inside below low =
+        others i j (λ e f. absurd (omega arith)) (λ e f. absurd (omega arith)) ∙ t.here i j inside below before
+    go i j (inr now) (inl after) column inside below low =
+        let same : m ≡ j = omega arith in
+        let size = t.count in
+        subst (λ (k : ℕ). delay_of new i k ≡ delay_at nodes i k) same (pairs i after (omega arith)).1
+    go i j (inr now) (inr row) (inl after) inside below low =
         let same : m ≡ i = omega arith in
-        let size = r.count in
-        subst (λ (k : ℕ). delay_of new k j ≡ delay_of_nodes k j (node_at nodes k) (node_at nodes j)) same (row j (omega arith))
+        let size = t.count in
+        subst (λ (k : ℕ). delay_of new k j ≡ delay_at nodes k j) same (pairs j after (omega arith)).0
+    go i j (inr now) (inr row) (inr column) inside below low =
+        let same : i ≡ j = omega arith in
+        others i j (λ e f. absurd (omega arith)) (λ e f. absurd (omega arith))
+        ∙ t.left i j (omega arith) (omega arith)
+        ∙ sym (none_before_itself i j (node_at nodes i) (node_at nodes j) same)
 
--- all rows are the table
-pub all_rows : (nodes : List Node) (d : Table) → RowsTo nodes (length nodes) (length nodes) d → AreDelays nodes d
-all_rows nodes d r = record { count = r.count; each = r.here }
+-- the entries of all pairs are the table
+pub all_rows : (nodes : List Node) (d : Table) → TableTo nodes (length nodes) (length nodes) d → AreDelays nodes d
+all_rows nodes d t = record { count = t.count; each = λ i j inside below. t.here i j inside below (omega arith) }
 
 pub as_many_nodes : (latency : LatKind → ℕ) (ops : List WordOp) (nodes : List Node) → AreNodes latency ops nodes → length nodes ≡ length ops
 as_many_nodes latency ops nodes e = ap length e ∙ length-map ops (λ (o : WordOp). node latency o.timed)

@@ -15,5 +15,6 @@ pub mod PlaceSets
 pub mod PlaceRanges
 pub mod Footprints
 pub mod Nodes
+pub mod Pairs
 pub mod Graphs
 pub mod Orders

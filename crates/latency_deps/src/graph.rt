@@ -1,10 +1,10 @@
 // The dependence graph of a block: which operation comes before which, and by how many cycles.
-ghost use Rattle.std.specs.Prelude.{◌≡◌, ◌≤◌, ◌<◌, ◌^◌, ℕ, length, None, IfOk, IfSome};
+ghost use Rattle.std.specs.Prelude.{◌≡◌, ◌≤◌, ◌<◌, ◌^◌, ℕ, length, None, IfOk};
 ghost use Rattle.machine_desc.specs.Description.{Description};
 ghost use Rattle.serial_order.specs.Table.{delay_of};
 ghost use Rattle.latency_deps.specs.Before.{lands_at};
 ghost use Rattle.latency_deps.specs.Delays.{IsDelayTable};
-ghost use Rattle.latency_deps.specs.Graph.{node, meeting, before_in_any_list as is_before_in_any_list, is_before as is_first, at_least as is_at_least, greatest_of, delay_of_nodes, node_at, LandInTime, AreNodes, AreShort, AreDelays};
+ghost use Rattle.latency_deps.specs.Graph.{node, meeting, turned as turned_meeting, before_in_any_list as is_before_in_any_list, is_before as is_first, at_least as is_at_least, greatest_of, have_nothing_in_common, delay_by_meeting, delay_of_nodes, delay_at, LandInTime, AreNodes, AreShort, AreDelays};
 
 use super::block::{GoodBlock, WordOp};
 use super::footprint::Footprint;
@@ -72,6 +72,15 @@ pub(crate) fn nodes<G: Generation>(
     Ok(nodes)
 }
 
+impl Node {
+    /// Whether the two can stand in any order, whatever their times. No branch: most pairs can, and each costs this test.
+    fn has_nothing_in_common(&self, other: &Self) -> bool
+        ensures { result ≡ have_nothing_in_common self.now other.now }
+    {
+        self.footprint.is_stranger_to(&other.footprint) & !ordered(&self.op, &other.op)
+    }
+}
+
 fn meet(a: &Node, b: &Node) -> Meeting
     ensures { result ≡ meeting a.now b.now }
 {
@@ -91,6 +100,18 @@ fn at_least(delay: i8, applies: bool, other: i8) -> i8
 }
 
 impl Meeting {
+    /// What stands between the second operation and the first.
+    fn turned(&self) -> Self
+        ensures { result ≡ turned_meeting self.now }
+    {
+        Meeting {
+            feeds: self.fed,
+            fed: self.feeds,
+            both_write: self.both_write,
+            in_list_order: self.in_list_order,
+        }
+    }
+
     /// Whether the first operation comes before the second by the times of the block, whatever their places in the list.
     /// No branch: pairs are many, and each way is as likely as the other.
     fn before_in_any_list(&self, a: &Node, b: &Node) -> bool
@@ -122,40 +143,56 @@ impl Meeting {
     }
 }
 
-/// The delay of the operation `a`, at the place i, before `b`, at the place j; None where it isn't before it.
-fn delay(i: u16, a: &Node, j: u16, b: &Node) -> Option<i8>
+/// Sets the delay of the operation `a`, at the place i, before `b`, at the place j, where it is before it.
+fn set_delay(d: &mut Delays, meeting: &Meeting, i: u16, a: &Node, j: u16, b: &Node)
+    requires inside { i < d.old.count × j < d.old.count }
     requires first { a.now.latency ≤ 32 }
     requires second { b.now.latency ≤ 32 }
-    ensures delay { result ≡ delay_of_nodes i j a.now b.now }
-    ensures differ { IfSome result (λ _. i ≡ j → ⊥) }
+    requires empty { delay_of d.old i j ≡ None }
+    ensures count { d.new.count ≡ d.old.count }
+    ensures here { delay_of d.new i j ≡ delay_by_meeting meeting.now i j a.now b.now }
+    ensures elsewhere { (k l : ℕ) → (k ≡ i → l ≡ j → ⊥) → delay_of d.new k l ≡ delay_of d.old k l }
 {
-    // Most pairs have nothing in common.
-    if a.footprint.is_stranger_to(&b.footprint) && !ordered(&a.op, &b.op) {
-        return None;
-    }
-    let meeting = meet(a, b);
     if meeting.is_before(i, a, j, b) {
-        Some(meeting.greatest(a, b))
-    } else {
-        None
+        d.set(i, j, meeting.greatest(a, b));
     }
 }
 
-/// The delays of one operation before the others.
-fn fill_row(d: &mut Delays, nodes: &[Node], i: u16)
+/// The delays between the operation `a`, at the place i, and `b`, at the place j, both ways.
+fn fill_pair(d: &mut Delays, i: u16, a: &Node, j: u16, b: &Node)
+    requires inside { i < j × j < d.old.count }
+    requires first { a.now.latency ≤ 32 }
+    requires second { b.now.latency ≤ 32 }
+    requires forth { delay_of d.old i j ≡ None }
+    requires back { delay_of d.old j i ≡ None }
+    ensures count { d.new.count ≡ d.old.count }
+    ensures forth { delay_of d.new i j ≡ delay_of_nodes i j a.now b.now }
+    ensures back { delay_of d.new j i ≡ delay_of_nodes j i b.now a.now }
+    ensures elsewhere { (k l : ℕ) → (k ≡ i → l ≡ j → ⊥) → (k ≡ j → l ≡ i → ⊥) → delay_of d.new k l ≡ delay_of d.old k l }
+{
+    // Most pairs have nothing in common.
+    if a.has_nothing_in_common(b) {
+        return;
+    }
+    let meeting = meet(a, b);
+    set_delay(d, &meeting, i, a, j, b);
+    set_delay(d, &meeting.turned(), j, b, i, a);
+}
+
+/// The delays between one operation and those behind it in the list, both ways.
+fn fill_pairs(d: &mut Delays, nodes: &[Node], i: u16)
     requires size { length nodes.now ≡ d.old.count }
     requires inside { i < d.old.count }
     requires short { AreShort nodes.now }
-    requires empty { (j : ℕ) → delay_of d.old i j ≡ None }
+    requires empty { (j : ℕ) → i < j → (delay_of d.old i j ≡ None) × (delay_of d.old j i ≡ None) }
     ensures count { d.new.count ≡ d.old.count }
-    ensures here { (j : ℕ) → j < d.old.count → delay_of d.new i j ≡ delay_of_nodes i j (node_at nodes.now i) (node_at nodes.now j) }
-    ensures elsewhere { (k j : ℕ) → (k ≡ i → ⊥) → delay_of d.new k j ≡ delay_of d.old k j }
+    ensures here { (j : ℕ) → i < j → j < d.old.count → (delay_of d.new i j ≡ delay_at nodes.now i j) × (delay_of d.new j i ≡ delay_at nodes.now j i) }
+    ensures elsewhere { (k l : ℕ) → (k ≡ i → i < l → ⊥) → (l ≡ i → i < k → ⊥) → delay_of d.new k l ≡ delay_of d.old k l }
 {
+    let count = d.count();
     let a = &nodes[i as usize];
-    for j in 0..d.count() {
-        if let Some(delay) = delay(i, a, j, &nodes[j as usize]) {
-            d.set(i, j, delay);
-        }
+    for j in i + 1..count {
+        fill_pair(d, i, a, j, &nodes[j as usize]);
     }
 }
 
@@ -167,7 +204,7 @@ pub(crate) fn delays_of(alloc: Global, nodes: &[Node]) -> Result<Delays, NoMemor
 {
     let mut d = Delays::new(alloc, nodes.len() as u16)?;
     for i in 0..d.count() {
-        fill_row(&mut d, nodes, i);
+        fill_pairs(&mut d, nodes, i);
     }
     Ok(d)
 }
