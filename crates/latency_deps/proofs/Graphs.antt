@@ -1,5 +1,5 @@
 -- The nodes of a block's operations, and the table of their delays.
-use Rattle.std.proofs.Common.{◌≡◌, ℕ, ◌+◌, ◌<◌, ◌≤◌, min, Bool, true, false, cond, ◌⊎◌, inl, inr, List, length, sym, ap, subst, ◌∙◌, Option, Some, None, arith}
+use Rattle.std.proofs.Common.{◌≡◌, ℕ, ◌+◌, ◌<◌, ◌≤◌, min, Bool, true, false, cond, ◌⊎◌, inl, inr, List, length, refl, sym, ap, subst, ◌∙◌, Option, Some, None, arith}
 use Rattle.std.specs.Prelude.{is_some, IfSome, ℤ, pos, negsuc, ◌≤ℤ◌}
 use Rattle.std.proofs.lemmas.Bool.{cases_lt}
 use Rattle.std.proofs.lemmas.List.{length-map, get_or-map}
@@ -16,9 +16,9 @@ use Rattle.latency_deps.specs.declared.graph.Node.{Node}
 use Rattle.latency_deps.specs.Before.{comes_before, delay_between, applying, greatest}
 use Rattle.latency_deps.specs.Block.{Block, IsGood, timed_at, block_with}
 use Rattle.latency_deps.specs.Delays.{before_in, delay_in, IsDelayTable}
-use Rattle.latency_deps.specs.Graph.{node, node_at, op_at, delay_of_nodes, delay_at, AreNodes, AreShort, AreDelays}
+use Rattle.latency_deps.specs.Graph.{node, node_at, op_at, have_nothing_in_common, delay_of_nodes, delay_at, AreNodes, AreShort, AreDelays}
 use Rattle.latency_deps.proofs.Nodes.{delay_law, delay_there, greatest_short, IsShort}
-use Rattle.latency_deps.proofs.Pairs.{none_before_itself}
+use Rattle.latency_deps.proofs.Pairs.{nothing_turned, none_of_strangers, none_before_itself}
 use Rattle.latency_deps.proofs.GoodOrders.{none_stuck}
 use Rattle.latency_deps.proofs.BranchLast.{branch_last}
 
@@ -55,6 +55,19 @@ more_pairs nodes i m old d new p behind count forth back others = record {
     go j (inr high) after below =
         let same : m ≡ j = omega arith in
         subst (λ (k : ℕ). (delay_of new i k ≡ delay_at nodes i k) × (delay_of new k i ≡ delay_at nodes k i)) same (forth, back)
+
+-- one pair more, of two that have nothing in common
+pub no_pair :
+    (nodes : List Node) (i m : ℕ) (old d : Table) → PairsTo nodes i m old d → i < m → have_nothing_in_common (node_at nodes i) (node_at nodes m) ≡ true →
+    PairsTo nodes i (m + 1) old d
+no_pair nodes i m old d p behind strangers =
+    let a = node_at nodes i in
+    let b = node_at nodes m in
+    let stood = p.left m behind (omega arith) in
+    more_pairs nodes i m old d d p behind refl
+    (stood.0 ∙ sym (none_of_strangers i m a b strangers))
+    (stood.1 ∙ sym (none_of_strangers m i b a (nothing_turned b a ∙ strangers)))
+    (λ k l row column. refl)
 
 -- the entries of each pair with one below m are there, and no other
 pub record TableTo (nodes : List Node) (n m : ℕ) (d : Table) : Type 0 where

@@ -1,10 +1,10 @@
 // The dependence graph of a block: which operation comes before which, and by how many cycles.
-ghost use Rattle.std.specs.Prelude.{◌≡◌, ◌≤◌, ◌<◌, ◌^◌, ℕ, length, None, IfOk};
+ghost use Rattle.std.specs.Prelude.{◌≡◌, ◌≤◌, ◌<◌, ◌^◌, ℕ, length, IsFalse, None, IfOk};
 ghost use Rattle.machine_desc.specs.Description.{Description};
 ghost use Rattle.serial_order.specs.Table.{delay_of};
 ghost use Rattle.latency_deps.specs.Before.{lands_at};
 ghost use Rattle.latency_deps.specs.Delays.{IsDelayTable};
-ghost use Rattle.latency_deps.specs.Graph.{node, meeting, turned as turned_meeting, before_in_any_list as is_before_in_any_list, is_before as is_first, at_least as is_at_least, greatest_of, have_nothing_in_common, delay_by_meeting, delay_of_nodes, delay_at, LandInTime, AreNodes, AreShort, AreDelays};
+ghost use Rattle.latency_deps.specs.Graph.{node, meeting, turned as turned_meeting, before_in_any_list as is_before_in_any_list, is_before as is_first, at_least as is_at_least, greatest_of, have_nothing_in_common, delay_by_meeting, delay_at, node_at, LandInTime, AreNodes, AreShort, AreDelays};
 
 use super::block::{GoodBlock, WordOp};
 use super::footprint::Footprint;
@@ -158,28 +158,28 @@ fn set_delay(d: &mut Delays, meeting: &Meeting, i: u16, a: &Node, j: u16, b: &No
     }
 }
 
-/// The delays between the operation `a`, at the place i, and `b`, at the place j, both ways.
-fn fill_pair(d: &mut Delays, i: u16, a: &Node, j: u16, b: &Node)
+/// Sets the delays between the operations i and j of the list, both ways. They have something in common.
+///
+/// It stays a call: few pairs come here, and the test of all the others is to have the registers.
+#[inline(never)]
+fn fill_pair(d: &mut Delays, nodes: &[Node], i: u16, j: u16)
+    requires size { length nodes.now ≡ d.old.count }
     requires inside { i < j × j < d.old.count }
-    requires first { a.now.latency ≤ 32 }
-    requires second { b.now.latency ≤ 32 }
-    requires forth { delay_of d.old i j ≡ None }
-    requires back { delay_of d.old j i ≡ None }
+    requires short { AreShort nodes.now }
+    requires meet { IsFalse (have_nothing_in_common (node_at nodes.now i) (node_at nodes.now j)) }
+    requires empty { (delay_of d.old i j ≡ None) × (delay_of d.old j i ≡ None) }
     ensures count { d.new.count ≡ d.old.count }
-    ensures forth { delay_of d.new i j ≡ delay_of_nodes i j a.now b.now }
-    ensures back { delay_of d.new j i ≡ delay_of_nodes j i b.now a.now }
+    ensures forth { delay_of d.new i j ≡ delay_at nodes.now i j }
+    ensures back { delay_of d.new j i ≡ delay_at nodes.now j i }
     ensures elsewhere { (k l : ℕ) → (k ≡ i → l ≡ j → ⊥) → (k ≡ j → l ≡ i → ⊥) → delay_of d.new k l ≡ delay_of d.old k l }
 {
-    // Most pairs have nothing in common.
-    if a.has_nothing_in_common(b) {
-        return;
-    }
+    let (a, b) = (&nodes[i as usize], &nodes[j as usize]);
     let meeting = meet(a, b);
     set_delay(d, &meeting, i, a, j, b);
     set_delay(d, &meeting.turned(), j, b, i, a);
 }
 
-/// The delays between one operation and those behind it in the list, both ways.
+/// Sets the delays between one operation and those behind it in the list, both ways.
 fn fill_pairs(d: &mut Delays, nodes: &[Node], i: u16)
     requires size { length nodes.now ≡ d.old.count }
     requires inside { i < d.old.count }
@@ -190,9 +190,12 @@ fn fill_pairs(d: &mut Delays, nodes: &[Node], i: u16)
     ensures elsewhere { (k l : ℕ) → (k ≡ i → i < l → ⊥) → (l ≡ i → i < k → ⊥) → delay_of d.new k l ≡ delay_of d.old k l }
 {
     let count = d.count();
-    let a = &nodes[i as usize];
+    let a = nodes[i as usize];
     for j in i + 1..count {
-        fill_pair(d, i, a, j, &nodes[j as usize]);
+        // Most pairs have nothing in common.
+        if !a.has_nothing_in_common(&nodes[j as usize]) {
+            fill_pair(d, nodes, i, j);
+        }
     }
 }
 

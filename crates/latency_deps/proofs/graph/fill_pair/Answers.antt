@@ -1,25 +1,32 @@
-use Rattle.std.proofs.Common.{◌≡◌, ◌∙◌, sym, ap}
+use Rattle.std.proofs.Common.{◌≡◌, ◌∙◌, ◌<◌, ℕ, Bool, false, List, Option, length, sym, ap, arith}
+use Rattle.std.specs.Prelude.{ℤ}
+use Rattle.std.proofs.lemmas.List.{get_or_default}
+use Rattle.latency_deps.specs.declared.graph.Node.{Node}
 use Rattle.latency_deps.specs.declared.graph.Meeting.{Meeting}
-use Rattle.latency_deps.specs.Graph.{turned, delay_by_meeting}
-use Rattle.latency_deps.proofs.Pairs.{meeting_turned, nothing_turned, none_of_strangers, by_meeting}
+use Rattle.latency_deps.specs.Graph.{meeting, turned, have_nothing_in_common, delay_by_meeting, delay_at, node_at}
+use Rattle.latency_deps.proofs.Pairs.{meeting_turned, nothing_turned, by_meeting}
 use Rattle.latency_deps.proofs.graph.fill_pair.Goals as goal
 
-pub returns-then-has_nothing_in_common-clause-back : goal.returns-then-has_nothing_in_common-clause-back
-returns-then-has_nothing_in_common-clause-back c =
-    let a = c.args.a.now in
-    let b = c.args.b.now in
-    let strangers = sym c.has_nothing_in_common.ensures ∙ c.if-has_nothing_in_common.true in
-    c.requires.back ∙ sym (none_of_strangers c.args.j c.args.i b a (nothing_turned b a ∙ strangers))
+-- what the meeting turned says of two nodes is the delay of the second before the first
+other_way : (nodes : List Node) (i j : ℕ) (a b : Node) (m : Meeting) (o : Option ℤ) → a ≡ node_at nodes i → b ≡ node_at nodes j →
+    have_nothing_in_common (node_at nodes i) (node_at nodes j) ≡ false → m ≡ turned (meeting a b) → o ≡ delay_by_meeting m j i b a → o ≡ delay_at nodes j i
+other_way nodes i j a b m o first second meet made e =
+    let p = node_at nodes i in
+    let q = node_at nodes j in
+    e
+    ∙ ap (λ (n : Meeting). delay_by_meeting n j i b a) (made ∙ meeting_turned a b)
+    ∙ ap (λ (x : Node). delay_by_meeting (meeting x a) j i x a) second
+    ∙ ap (λ (x : Node). delay_by_meeting (meeting q x) j i q x) first
+    ∙ sym (by_meeting j i q p (nothing_turned q p ∙ meet))
 
 pub returns-clause-back : goal.returns-clause-back
 returns-clause-back c =
-    let a = c.args.a.now in
-    let b = c.args.b.now in
-    let meet = sym c.has_nothing_in_common.ensures ∙ c.if-has_nothing_in_common.false in
-    let other = c.turned.ensures ∙ ap (λ (m : Meeting). turned m) c.meet-meeting.ensures ∙ meeting_turned a b in
+    let nodes = c.args.nodes.now in
+    let i = c.args.i in
+    let j = c.args.j in
+    let size = c.requires.size in
+    let below : j < length nodes = (let h = c.requires.inside.1 in omega arith) in
+    let inside : i < length nodes = (let h = c.requires.inside.0 in omega arith) in
+    other_way nodes i j _ _ c.turned.result _ (get_or_default nodes i _ _ inside) (get_or_default nodes j _ _ below) c.requires.meet
+    (c.turned.ensures ∙ ap turned c.meet-meeting.ensures)
     c.set_delay-2.ensures.here
-    ∙ ap (λ (m : Meeting). delay_by_meeting m c.args.j c.args.i b a) other
-    ∙ sym (by_meeting c.args.j c.args.i b a (nothing_turned b a ∙ meet))
-
-pub returns-clause-elsewhere : goal.returns-clause-elsewhere
-returns-clause-elsewhere c = λ k l forth back. c.set_delay-2.ensures.elsewhere k l back ∙ c.set_delay.ensures.elsewhere k l forth
