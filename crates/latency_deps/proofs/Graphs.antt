@@ -76,11 +76,11 @@ pub record TableTo (nodes : List Node) (n m : ℕ) (d : Table) : Type 0 where
   pub left : (i j : ℕ) → m ≤ i → m ≤ j → delay_of d i j ≡ None
 
 -- the pairs of one operation more
-pub more_rows :
+pub more_table :
     (nodes : List Node) (n m : ℕ) (d new : Table) → TableTo nodes n m d → new.count ≡ d.count →
     ((j : ℕ) → m < j → j < d.count → (delay_of new m j ≡ delay_at nodes m j) × (delay_of new j m ≡ delay_at nodes j m)) →
     ((k l : ℕ) → (k ≡ m → m < l → ⊥) → (l ≡ m → m < k → ⊥) → delay_of new k l ≡ delay_of d k l) → TableTo nodes n (m + 1) new
-more_rows nodes n m d new t count pairs others = record {
+more_table nodes n m d new t count pairs others = record {
   count = count ∙ t.count;
   here = λ i j inside below low. go i j (cases_lt (min i j) m) (cases_lt m i) (cases_lt m j) inside below low;
   left = λ i j row column. others i j (λ e f. absurd (omega arith)) (λ e f. absurd (omega arith)) ∙ t.left i j (omega arith) (omega arith);
@@ -105,8 +105,8 @@ more_rows nodes n m d new t count pairs others = record {
         ∙ sym (none_before_itself i j (node_at nodes i) (node_at nodes j) same)
 
 -- the entries of all pairs are the table
-pub all_rows : (nodes : List Node) (d : Table) → TableTo nodes (length nodes) (length nodes) d → AreDelays nodes d
-all_rows nodes d t = record { count = t.count; each = λ i j inside below. t.here i j inside below (omega arith) }
+pub whole_table : (nodes : List Node) (d : Table) → TableTo nodes (length nodes) (length nodes) d → AreDelays nodes d
+whole_table nodes d t = record { count = t.count; each = λ i j inside below. t.here i j inside below (omega arith) }
 
 pub as_many_nodes : (latency : LatKind → ℕ) (ops : List WordOp) (nodes : List Node) → AreNodes latency ops nodes → length nodes ≡ length ops
 as_many_nodes latency ops nodes e = ap length e ∙ length-map ops (λ (o : WordOp). node latency o.timed)

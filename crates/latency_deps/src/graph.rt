@@ -73,7 +73,7 @@ pub(crate) fn nodes<G: Generation>(
 }
 
 impl Node {
-    /// Whether the two can stand in any order, whatever their times. No branch: most pairs can, and each costs this test.
+    /// Whether the two can stand in any order, whatever their times. Each pair of a block is asked once.
     fn has_nothing_in_common(&self, other: &Self) -> bool
         ensures { result ≡ have_nothing_in_common self.now other.now }
     {
@@ -96,7 +96,11 @@ fn meet(a: &Node, b: &Node) -> Meeting
 fn at_least(delay: i8, applies: bool, other: i8) -> i8
     ensures { result ≡ is_at_least delay applies other }
 {
-    if applies { delay.max(other) } else { delay }
+    if applies & (delay < other) {
+        other
+    } else {
+        delay
+    }
 }
 
 impl Meeting {
@@ -126,7 +130,7 @@ impl Meeting {
     fn is_before(&self, i: u16, a: &Node, j: u16, b: &Node) -> bool
         ensures { result ≡ is_first self.now i j a.now b.now }
     {
-        i != j && (self.before_in_any_list(a, b) || self.in_list_order && i < j)
+        (i != j) & (self.before_in_any_list(a, b) | (self.in_list_order & (i < j)))
     }
 
     /// The greatest delay that applies. None is below -31: that of a reader before a writer with a latency of 32.
@@ -160,7 +164,7 @@ fn set_delay(d: &mut Delays, meeting: &Meeting, i: u16, a: &Node, j: u16, b: &No
 
 /// Sets the delays between the operations i and j of the list, both ways. They have something in common.
 ///
-/// It stays a call: few pairs come here, and the test of all the others is to have the registers.
+/// Never inlined: few pairs come here, and it would take the registers of the test that all go through.
 #[inline(never)]
 fn fill_pair(d: &mut Delays, nodes: &[Node], i: u16, j: u16)
     requires size { length nodes.now ≡ d.old.count }
