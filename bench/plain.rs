@@ -77,13 +77,37 @@ fn node(word: u64, at: u32) -> Option<Node> {
     Some(node)
 }
 
-fn delay(i: usize, a: &Node, j: usize, b: &Node) -> Option<i8> {
-    let feeds = a.writes & b.reads != 0;
-    let fed = b.writes & a.reads != 0;
-    let both = a.plain & b.writes | a.writes & b.plain | a.ones & b.zeros | a.zeros & b.ones != 0;
-    let listed = a.traps && b.traps || a.inputs && b.inputs;
-    let before = feeds && a.lands <= b.at || fed && a.at < b.lands || both && a.lands < b.lands || listed && i < j;
-    if i == j || !before {
+/// What stands between two operations, whatever their times: what the first writes and the second reads, the other way
+/// round, what both write apart, and whether they keep the order of the list.
+#[derive(Clone, Copy)]
+struct Meeting {
+    feeds: bool,
+    fed: bool,
+    both: bool,
+    listed: bool,
+}
+
+fn keep_order(a: &Node, b: &Node) -> bool {
+    a.traps & b.traps | a.inputs & b.inputs
+}
+
+fn are_strangers(a: &Node, b: &Node) -> bool {
+    (a.writes & b.reads | a.writes & b.writes | a.reads & b.writes) == 0 && !keep_order(a, b)
+}
+
+fn meet(a: &Node, b: &Node) -> Meeting {
+    Meeting {
+        feeds: a.writes & b.reads != 0,
+        fed: b.writes & a.reads != 0,
+        both: a.plain & b.writes | a.writes & b.plain | a.ones & b.zeros | a.zeros & b.ones != 0,
+        listed: keep_order(a, b),
+    }
+}
+
+fn delay(meeting: Meeting, i: usize, a: &Node, j: usize, b: &Node) -> Option<i8> {
+    let Meeting { feeds, fed, both, listed } = meeting;
+    let before = feeds & (a.lands <= b.at) | fed & (a.at < b.lands) | both & (a.lands < b.lands) | listed & (i < j);
+    if !before {
         return None;
     }
     let (first, second) = (a.latency as i8, b.latency as i8);
@@ -103,12 +127,19 @@ fn delay(i: usize, a: &Node, j: usize, b: &Node) -> Option<i8> {
     Some(delay)
 }
 
+/// The delays of each pair, both ways.
 fn delays(nodes: &[Node]) -> Vec<Option<i8>> {
     let n = nodes.len();
     let mut cells = vec![None; n * n];
     for (i, a) in nodes.iter().enumerate() {
-        for (j, b) in nodes.iter().enumerate() {
-            cells[i * n + j] = delay(i, a, j, b);
+        for (j, b) in nodes.iter().enumerate().skip(i + 1) {
+            if are_strangers(a, b) {
+                continue;
+            }
+            let meeting = meet(a, b);
+            let turned = Meeting { feeds: meeting.fed, fed: meeting.feeds, ..meeting };
+            cells[i * n + j] = delay(meeting, i, a, j, b);
+            cells[j * n + i] = delay(turned, j, b, i, a);
         }
     }
     cells
