@@ -44,9 +44,7 @@ fn count_on(d: &Delays, i: u16, waits: &mut [u16])
     ensures { (j : ℕ) → j < d.now.count → slice_index waits.new j ≡ slice_index waits.old j + one_where (before d.now i j) }
 {
     for j in 0..d.count() {
-        if d.get(i, j).is_some() {
-            waits[j as usize] += 1;
-        }
+        waits[j as usize] += d.get(i, j).is_some() as u16;
     }
 }
 
@@ -58,9 +56,7 @@ fn count_off(d: &Delays, i: u16, waits: &mut [u16])
     ensures { (j : ℕ) → j < d.now.count → slice_index waits.new j + one_where (before d.now i j) ≡ slice_index waits.old j }
 {
     for j in 0..d.count() {
-        if d.get(i, j).is_some() {
-            waits[j as usize] -= 1;
-        }
+        waits[j as usize] -= d.get(i, j).is_some() as u16;
     }
 }
 
