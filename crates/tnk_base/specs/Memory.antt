@@ -10,7 +10,7 @@ use Rattle.tnk_base.specs.declared.host.FetchFault.TheVariants as fetches
 use Rattle.tnk_base.specs.declared.host.HostFault.{HostFault}
 use Rattle.tnk_base.specs.declared.host.HostFault.TheVariants as hosts
 use Rattle.tnk_base.specs.declared.memory.MemoryHost.{MemoryHost}
-use Rattle.tnk_base.specs.Host.{Files}
+use Rattle.tnk_base.specs.Host.{Files, Shown}
 
 -- the bytes of each file, by its name
 abbrev pub memory_files : MemoryHost → Files
@@ -31,6 +31,15 @@ memory_failing h = h.failing.items
 -- the count of faults
 abbrev pub memory_faults : MemoryHost → ℕ
 memory_faults h = h.faults
+
+-- what it shows: all of that
+abbrev pub memory_shows : MemoryHost → Shown
+memory_shows h = record {
+  files = Some (memory_files h);
+  out = Some (memory_out h);
+  asked = Some (memory_asked h);
+  faults = memory_faults h;
+}
 
 -- the number of the next call is among those that are to fail
 abbrev pub is_failing : MemoryHost → Bool

@@ -2,8 +2,8 @@
 ghost use Rattle.std.specs.Prelude.{◌≡◌, ◌≢◌, ◌↔◌, ◌+◌, ◌-◌, ◌/◌, min, ◌<◌, ◌≤◌, ◌^◌, ℕ, List, [], ◌∷◌, ◌++◌, IsNone, IfSome, length, take, IfOk, IfErr, OnOk, OnErr, Some, None, Option, nat_eq};
 ghost use Rattle.std.specs.List.{list_any};
 ghost use Rattle.tnk_base.specs.declared.host.Asked.TheVariants.{Fetch as fetched, Keep as kept, Put as put_out};
-ghost use Rattle.tnk_base.specs.Host.{HasCause, Holds, IsTooLong, IsLeftBut, NotedOr, GrowsByPart};
-ghost use Rattle.tnk_base.specs.Memory.{memory_files, memory_out, memory_asked, memory_failing, memory_faults, is_failing, Answers, FetchAnswers};
+ghost use Rattle.tnk_base.specs.Host.{Stands, HasCause, Holds, IsTooLong, IsLeftBut, NotedOr, GrowsByPart};
+ghost use Rattle.tnk_base.specs.Memory.{memory_files, memory_out, memory_asked, memory_failing, memory_faults, memory_shows, is_failing, Answers, FetchAnswers};
 
 use super::{Asked, FetchFault, Host, HostFault, Name, NoMemory};
 use std::alloc::Global;
@@ -43,7 +43,8 @@ impl MemoryHost {
     /// Adds a file, or replaces the one of this name. It counts as no call.
     pub fn with(&mut self, name: &str, bytes: &[u8]) -> Result<(), NoMemory>
         ensures file { OnOk result (memory_files self.new name.now ≡ Some bytes.now) }
-        ensures others { (other : List ℕ) → other ≢ name.now → memory_files self.new other ≡ memory_files self.old other }
+        ensures others { (other : List ℕ) → other ≢ name.now →
+            memory_files self.new other ≡ memory_files self.old other }
         ensures err { OnErr result (memory_files self.new ≡ memory_files self.old) }
         ensures out { memory_out self.new ≡ memory_out self.old }
         ensures asked { memory_asked self.new ≡ memory_asked self.old }
@@ -90,24 +91,19 @@ impl MemoryHost {
 }
 
 impl Host for MemoryHost {
-    ghost files = { λ h. Some (memory_files h) };
-
-    ghost out = { λ h. Some (memory_out h) };
-
-    ghost asked = { λ h. Some (memory_asked h) };
-
-    ghost faults = { memory_faults };
+    ghost shows = { memory_shows };
 
     fn fetch(&mut self, alloc: Global, name: &str, limit: u64) -> Result<Vec<u8>, FetchFault>
         requires { limit < 2 ^ 32 }
         ensures answers { FetchAnswers self.old name.now limit result }
-        ensures counted { result ≡ Err FetchFault.Failed → memory_faults self.new ≡ min (memory_faults self.old + 1) (2 ^ 64 - 1) }
+        ensures counted { result ≡ Err FetchFault.Failed → memory_faults self.new ≡ min (memory_faults self.old + 1)
+            (2 ^ 64 - 1) }
         ensures failing { memory_failing self.new ≡ memory_failing self.old }
 
         // As of every host.
-        ensures files { memory_files self.new ≡ memory_files self.old }
-        ensures out { memory_out self.new ≡ memory_out self.old }
-        ensures asked { NotedOr (result ≡ Err FetchFault.NoMemory) (fetched name.now limit) (Some (memory_asked self.old)) (Some (memory_asked self.new)) }
+        ensures stands { Stands (memory_shows self.old) (memory_shows self.new) }
+        ensures asked { NotedOr (result ≡ Err FetchFault.NoMemory) (fetched name.now limit) (Some (memory_asked self.old))
+            (Some (memory_asked self.new)) }
         ensures cause { HasCause (memory_faults self.old) (memory_faults self.new) (result ≡ Err FetchFault.Failed) }
     {
         let call = Asked::Fetch(Name::of(alloc, name.as_bytes())?, limit);
@@ -132,15 +128,18 @@ impl Host for MemoryHost {
 
     fn keep(&mut self, name: &str, bytes: &[u8]) -> Result<(), HostFault>
         ensures answers { Answers self.old result }
-        ensures counted { result ≡ Err HostFault.Failed → memory_faults self.new ≡ min (memory_faults self.old + 1) (2 ^ 64 - 1) }
+        ensures counted { result ≡ Err HostFault.Failed →
+            memory_faults self.new ≡ min (memory_faults self.old + 1) (2 ^ 64 - 1) }
         ensures failing { memory_failing self.new ≡ memory_failing self.old }
         ensures nothing { OnErr result (memory_files self.new ≡ memory_files self.old) }
 
         // As of every host.
         ensures file { OnOk result (memory_files self.new name.now ≡ Some bytes.now) }
-        ensures others { (other : List ℕ) → other ≢ name.now → memory_files self.new other ≡ memory_files self.old other }
+        ensures others { (other : List ℕ) → other ≢ name.now →
+            memory_files self.new other ≡ memory_files self.old other }
         ensures out { memory_out self.new ≡ memory_out self.old }
-        ensures asked { NotedOr (result ≡ Err HostFault.NoMemory) (kept name.now) (Some (memory_asked self.old)) (Some (memory_asked self.new)) }
+        ensures asked { NotedOr (result ≡ Err HostFault.NoMemory) (kept name.now) (Some (memory_asked self.old))
+            (Some (memory_asked self.new)) }
         ensures cause { HasCause (memory_faults self.old) (memory_faults self.new) (result ≡ Err HostFault.Failed) }
     {
         let call = Asked::Keep(Name::of(self.alloc, name.as_bytes())?);
@@ -153,16 +152,19 @@ impl Host for MemoryHost {
 
     fn put(&mut self, bytes: &[u8]) -> Result<(), HostFault>
         ensures answers { Answers self.old result }
-        ensures counted { result ≡ Err HostFault.Failed → memory_faults self.new ≡ min (memory_faults self.old + 1) (2 ^ 64 - 1) }
+        ensures counted { result ≡ Err HostFault.Failed →
+            memory_faults self.new ≡ min (memory_faults self.old + 1) (2 ^ 64 - 1) }
         ensures failing { memory_failing self.new ≡ memory_failing self.old }
-        ensures half { result ≡ Err HostFault.Failed → memory_out self.new ≡ memory_out self.old ++ take (length bytes.now / 2) bytes.now }
+        ensures half { result ≡ Err HostFault.Failed → memory_out self.new ≡ memory_out self.old ++ take
+            (length bytes.now / 2) bytes.now }
         ensures nothing { result ≡ Err HostFault.NoMemory → memory_out self.new ≡ memory_out self.old }
 
         // As of every host.
         ensures out { OnOk result (memory_out self.new ≡ memory_out self.old ++ bytes.now) }
         ensures part { OnErr result (GrowsByPart bytes.now (Some (memory_out self.old)) (Some (memory_out self.new))) }
         ensures files { memory_files self.new ≡ memory_files self.old }
-        ensures asked { NotedOr (result ≡ Err HostFault.NoMemory) put_out (Some (memory_asked self.old)) (Some (memory_asked self.new)) }
+        ensures asked { NotedOr (result ≡ Err HostFault.NoMemory) put_out (Some (memory_asked self.old))
+            (Some (memory_asked self.new)) }
         ensures cause { HasCause (memory_faults self.old) (memory_faults self.new) (result ≡ Err HostFault.Failed) }
     {
         if note(Asked::Put, &self.failing, &mut self.asked)? {
