@@ -9,8 +9,6 @@
 mod padding;
 mod rules;
 mod table;
-#[cfg(test)]
-mod tests;
 
 pub use rules::{TableFault, TableRule};
 pub use table::Table;

@@ -93,7 +93,8 @@ impl Table {
         pages: u16,
         entry: u32,
     ) -> Result<Self, TableFault>
-        ensures table { MatchResult result (λ table. (table ≡ rows.now) × (first_broken rows.now pages entry ≡ None)) (IsFirstBroken rows.now pages entry) }
+        ensures table { MatchResult result (λ table. (table ≡ rows.now) × (first_broken rows.now pages entry ≡ None))
+            (IsFirstBroken rows.now pages entry) }
         ensures inside { IfOk result (λ table. AreInside table pages) }
     {
         if let Some(row) = first_misplaced(rows, pages) {

@@ -12,8 +12,6 @@ mod bits;
 pub mod fields;
 pub mod laws;
 pub mod opcodes;
-#[cfg(test)]
-mod tests;
 mod timing;
 mod word;
 

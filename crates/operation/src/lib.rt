@@ -15,8 +15,6 @@ mod kinds;
 pub mod laws;
 pub mod numbers;
 pub mod places;
-#[cfg(test)]
-mod tests;
 
 pub use effects::evaluate;
 pub use kinds::{can_trap, is_branch, is_inb, lat_kind, unit};

@@ -8,8 +8,6 @@
 pub mod laws;
 mod serial;
 mod table;
-#[cfg(test)]
-mod tests;
 
 pub use serial::{OrderFault, order};
 pub use table::Delays;

@@ -41,7 +41,8 @@ fn count_on(d: &Delays, i: u16, waits: &mut [u16])
     requires inside { i < d.now.count }
     requires size { length waits.old ≡ d.now.count }
     requires small { (j : ℕ) → j < d.now.count → slice_index waits.old j ≤ i }
-    ensures { (j : ℕ) → j < d.now.count → slice_index waits.new j ≡ slice_index waits.old j + one_where (before d.now i j) }
+    ensures { (j : ℕ) → j < d.now.count →
+        slice_index waits.new j ≡ slice_index waits.old j + one_where (before d.now i j) }
 {
     for j in 0..d.count() {
         waits[j as usize] += d.get(i, j).is_some() as u16;
@@ -53,7 +54,8 @@ fn count_off(d: &Delays, i: u16, waits: &mut [u16])
     requires inside { i < d.now.count }
     requires size { length waits.old ≡ d.now.count }
     requires counted { (j : ℕ) → j < d.now.count → one_where (before d.now i j) ≤ slice_index waits.old j }
-    ensures { (j : ℕ) → j < d.now.count → slice_index waits.new j + one_where (before d.now i j) ≡ slice_index waits.old j }
+    ensures { (j : ℕ) → j < d.now.count →
+        slice_index waits.new j + one_where (before d.now i j) ≡ slice_index waits.old j }
 {
     for j in 0..d.count() {
         waits[j as usize] -= d.get(i, j).is_some() as u16;
@@ -63,7 +65,8 @@ fn count_off(d: &Delays, i: u16, waits: &mut [u16])
 /// For each operation how many are before it.
 fn count_all(alloc: Global, d: &Delays) -> Result<Vec<u16>, AllocError>
     ensures length { IfOk result (λ waits. length waits.items ≡ d.now.count) }
-    ensures counts { IfOk result (λ waits. (j : ℕ) → j < d.now.count → slice_index waits.items j ≡ unplaced_before (before d.now) [] j d.now.count) }
+    ensures counts { IfOk result (λ waits. (j : ℕ) → j < d.now.count → slice_index waits.items j ≡ unplaced_before
+        (before d.now) [] j d.now.count) }
 {
     let mut waits = vec![in alloc; 0u16; d.count() as usize]?;
     for i in 0..d.count() {
@@ -76,8 +79,10 @@ fn count_all(alloc: Global, d: &Delays) -> Result<Vec<u16>, AllocError>
 fn next_free(waits: &[u16], placed: &[bool]) -> Option<u16>
     requires few { length waits.now ≤ 512 }
     requires size { length placed.now ≡ length waits.now }
-    ensures none { IfNone result ((i : ℕ) → i < length waits.now → slice_index_or placed.now i true ≡ false → slice_index waits.now i ≡ 0 → ⊥) }
-    ensures free { IfSome result (λ i. (i < length waits.now) × (slice_index_or placed.now i true ≡ false) × (slice_index waits.now i ≡ 0)) }
+    ensures none { IfNone result ((i : ℕ) → i < length waits.now → slice_index_or placed.now i true ≡ false →
+        slice_index waits.now i ≡ 0 → ⊥) }
+    ensures free { IfSome result (λ i. (i < length waits.now) × (slice_index_or placed.now i true ≡ false) ×
+        (slice_index waits.now i ≡ 0)) }
 {
     for i in 0..waits.len() {
         if !placed[i] && waits[i] == 0 {
@@ -108,7 +113,8 @@ fn first_left(placed: &[bool]) -> Option<u16>
 /// comes exactly where some operations can't be placed, each for another of them: it names the least of these.
 pub fn order(alloc: Global, d: &Delays) -> Result<Vec<u16>, OrderFault>
     ensures order { IfOk result (λ order. IsOrder (before d.now) d.now.count order.items) }
-    ensures stuck { MatchResult result (λ _. first_stuck (before d.now) d.now.count ≡ None) (IsFirstStuck (before d.now) d.now.count) }
+    ensures stuck { MatchResult result (λ _. first_stuck (before d.now) d.now.count ≡ None)
+        (IsFirstStuck (before d.now) d.now.count) }
 {
     let n = d.count() as usize;
     let mut waits = count_all(alloc, d)?;

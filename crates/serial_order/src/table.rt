@@ -48,7 +48,8 @@ impl Delays {
     pub fn count(&self) -> u16
         ensures value { result ≡ self.now.count }
         ensures few { self.now.count ≤ 512 }
-        ensures inside { (i j : ℕ) → IsTrue (before self.now i j) → (i < self.now.count) × (j < self.now.count) × (i ≡ j → ⊥) }
+        ensures inside { (i j : ℕ) → IsTrue (before self.now i j) →
+            (i < self.now.count) × (j < self.now.count) × (i ≡ j → ⊥) }
     {
         self.count
     }

@@ -197,7 +197,8 @@ pub fn meant_with_cycles(
 }
 
 fn meant(end: End, blocks: u32, cells: Cells, work: Work) -> Meant
-    ensures { meaning_of result ≡ record { end = end; blocks = blocks; output = work.output.items; memory = cells.memory.items } }
+    ensures { meaning_of result ≡
+        record { end = end; blocks = blocks; output = work.output.items; memory = cells.memory.items } }
 {
     Meant {
         end,

@@ -114,7 +114,8 @@ fn push_predicates(
     first: Option<bool>,
     second: Option<bool>,
 ) -> Result<(), AllocError>
-    ensures { OnOk result (reverse writes.new.items ≡ landing lands (to_predicates op.now first second) ++ reverse writes.old.items) }
+    ensures { OnOk result (reverse writes.new.items ≡ landing lands (to_predicates op.now first second)
+        ++ reverse writes.old.items) }
 {
     match op {
         Op::Cmp(_, a, b, _, _) | Op::CmpImm(_, a, b, _, _) => {

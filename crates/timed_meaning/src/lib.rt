@@ -17,8 +17,6 @@ mod cells;
 mod evaluate;
 mod issue;
 mod settle;
-#[cfg(test)]
-mod tests;
 mod values;
 
 pub use evaluate::{meaning, meant_with_cycles};

@@ -11,8 +11,6 @@ ghost use Rattle.std.specs.Cmp.Lexicographic.{nat_list_eq_equiv};
 mod host;
 pub mod laws;
 mod memory;
-#[cfg(test)]
-mod tests;
 
 pub use host::{Asked, FetchFault, Host, HostFault};
 pub use memory::MemoryHost;

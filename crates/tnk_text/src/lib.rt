@@ -4,7 +4,5 @@
 #![tactic(auto)]
 
 mod digits;
-#[cfg(test)]
-mod tests;
 
 pub use digits::decimal;

@@ -10,9 +10,6 @@ ghost use Rattle.trap_order.specs.Laws.{EitherWayRound};
 
 use operation::{Op, can_trap, is_inb};
 
-#[cfg(test)]
-mod tests;
-
 /// Whether two operations of a block issue in the order in which they are listed: both can trap, or both are `inb`.
 ///
 /// `div`, `rem`, loads, stores and `outb` can trap. The answer is the same for `b` and `a`.
