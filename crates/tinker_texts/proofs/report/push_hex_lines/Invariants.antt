@@ -1,0 +1,7 @@
+use Rattle.std.proofs.Common.{◌≡◌, ◌++◌, string_bytes}
+use Rattle.std.specs.List.{flat_map, range_with_len}
+use Rattle.tinker_texts.specs.Report.{hex_line}
+use Rattle.tinker_texts.proofs.report.push_hex_lines.Given as goal
+
+abbrev pub invariant-loop-i : goal.invariant-loop-i
+invariant-loop-i l = string_bytes l.text ≡ string_bytes l.fn.text ++ flat_map (hex_line l.bytes) (range_with_len 0 l.i)

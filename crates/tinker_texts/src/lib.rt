@@ -1,0 +1,13 @@
+// What commands put out: the report of a run, the line of an accepted image, refusals, and what the program says of itself.
+// It stands on `operation` (ends and traps), `image_check` and `image_format` (accepted images and broken rules), and
+// `byteorder`.
+// Its contract is that each text is that of its definition, byte by byte (specs/).
+#![tactic(auto)]
+
+mod help;
+mod refusals;
+mod report;
+
+pub use help::{page, version};
+pub use refusals::{broken, too_long};
+pub use report::{accepted, push_cycles, push_part};

@@ -1,0 +1,14 @@
+use Rattle.std.proofs.Common.{List, ℕ, Vec, Global, ◌≡◌, Some, subst, sym}
+use Rattle.tinker_top.specs.Command.{with_input}
+use Rattle.tinker_top.specs.Steps.{GivesTo}
+use Rattle.tinker_top.proofs.commands.input.Goals as goal
+
+pub returns-in-Some-clause-given : goal.returns-in-Some-clause-given
+returns-in-Some-clause-given g c = λ files told.
+    let old = g.H.Host.shows c.args.host.now in
+    let new = g.H.Host.shows c.fetch.new.host in
+    let view = c.setup.view_is in
+    let some = c.in-Some.is in
+    let named : c.args.setup.now.input ≡ Some c.in-Some.name.now = cc in
+    subst (λ name. GivesTo {V = Vec ℕ Global} {X = List ℕ} (λ bytes. bytes.items) (with_input name files) c.fetch.result old new) (sym named)
+    (c.fetch.ensures.given files told)

@@ -1,0 +1,4 @@
+pub mod Settings
+pub mod Words
+pub mod Rows
+pub mod Forms

@@ -1,0 +1,86 @@
+-- What the words of the command line ask for.
+use Rattle.std.specs.Prelude.{ℕ, Bool, true, false, not, ◌&&◌, List, [], ◌∷◌, codes, bytes_eq, Option, Some, None, if◌then◌else◌}
+use Rattle.std.specs.List.{list_any}
+use Rattle.tinker_words.specs.declared.settings.Number.TheVariants.{Bound, Limit}
+use Rattle.tinker_words.specs.declared.settings.Kind.{Kind}
+use Rattle.tinker_words.specs.declared.settings.Kind.TheVariants.{Counted, Dump}
+use Rattle.tinker_words.specs.Settings.{Settings, unset, begins, settings}
+
+-- a program to be run: its image, the file of its input, if it has one, and the settings
+pub record Setup : Type 0 where
+  pub image : List ℕ
+  pub input : Option (List ℕ)
+  pub settings : Settings
+
+-- the commands
+pub data Command : Type 0 where
+  Help : Command
+  Version : Command
+  Check : (image : List ℕ) → Command
+  Meaning : Setup → Command
+  Run : Setup → Command
+
+-- a word that names a file isn't empty
+abbrev pub is_name : List ℕ → Bool
+is_name [] = false
+is_name _ = true
+
+-- the settings of `meaning` and `run`
+abbrev pub run_kinds : List Kind
+run_kinds = Counted Bound ∷ (Counted Limit ∷ (Dump ∷ []))
+
+-- what no word begins with that names an image of `run`
+abbrev pub setting_names : List (List ℕ)
+setting_names = codes "frames=" ∷ codes "saved=" ∷ codes "bound=" ∷ codes "limit=" ∷ codes "script=" ∷ codes "dump=" ∷ []
+
+-- a word that names an image of `run`: not empty, and no setting
+abbrev pub is_image_name : List ℕ → Bool
+is_image_name word = is_name word && not (list_any (λ name. begins name word) setting_names)
+
+-- the file of the input, and none for `-`
+abbrev pub input_named : List ℕ → Option (List ℕ)
+input_named word = if bytes_eq word (codes "-") then None else Some word
+
+-- a command whose word stands alone; none for other words, here and below
+abbrev pub alone : Command → List (List ℕ) → Option Command
+alone command [] = Some command
+alone command _ = None
+
+-- `IMAGE`
+abbrev pub check_words : List (List ℕ) → Option Command
+check_words (image ∷ []) = if is_name image then Some (Check image) else None
+check_words _ = None
+
+-- `IMAGE INPUT`
+abbrev pub meaning_words : Settings → List (List ℕ) → Option Command
+meaning_words s (image ∷ (input ∷ [])) =
+    if is_name image && is_name input
+    then Some (Meaning (record { image = image; input = input_named input; settings = s })) else None
+meaning_words s _ = None
+
+-- `IMAGE own INPUT`
+abbrev pub is_run : (image generation input : List ℕ) → Bool
+is_run image generation input = is_image_name image && (bytes_eq generation (codes "own") && is_name input)
+
+abbrev pub run_form : Settings → (image generation input : List ℕ) → Option Command
+run_form s image generation input =
+    if is_run image generation input
+    then Some (Run (record { image = image; input = input_named input; settings = s })) else None
+
+abbrev pub run_words : Settings → List (List ℕ) → Option Command
+run_words s (image ∷ (generation ∷ (input ∷ []))) = run_form s image generation input
+run_words s _ = None
+
+-- the settings, and then the other words
+abbrev pub behind_settings : (Settings → List (List ℕ) → Option Command) → List (List ℕ) → Option Command
+behind_settings others words = elim (settings run_kinds unset words) [ None ↦ None | Some r ↦ others r.0 r.1 ]
+
+-- the command that the words name, and none where they have no form
+abbrev pub command_of : List (List ℕ) → Option Command
+command_of (verb ∷ words) =
+    if bytes_eq verb (codes "check") then check_words words else
+    (if bytes_eq verb (codes "meaning") then behind_settings meaning_words words else
+    (if bytes_eq verb (codes "run") then behind_settings run_words words else
+    (if bytes_eq verb (codes "--help") then alone Help words else
+    (if bytes_eq verb (codes "--version") then alone Version words else None))))
+command_of [] = None

@@ -1,0 +1,11 @@
+// The words of the command line: which have a form, and the command that they name. It stands on `tnk_text`, which reads
+// numbers.
+// Its contract is `command_of` of specs/Words.antt: `parse` gives exactly the command that it gives. A `Command`, a `Setup`
+// and `Settings` are seen by contracts as the values of that definition.
+#![tactic(auto)]
+
+mod settings;
+mod words;
+
+pub use settings::{Number, Settings};
+pub use words::{Command, Form, Setup, parse};

@@ -1,0 +1,217 @@
+// The settings of a command: the words `NAME=VALUE` that stand before its other words.
+ghost use Rattle.std.specs.Prelude.{◌≡◌, ◌≤◌, IfSome, drop, map, string_bytes, option_map};
+ghost use Rattle.tnk_text.specs.Digits.{decimal_in};
+ghost use Rattle.tinker_words.specs.Settings.{unset, row as row_of, name_of, begins as begins_with, setting_in, number as number_of, given, with_number as numbered, first_number as first_of, with_counted as counted, with_dump as dumped, with_setting as with_value, settings as settings_of};
+ghost use Rattle.tinker_words.specs.Rows.{shown_row};
+
+use std::marker::Model;
+use tnk_text::decimal;
+
+/// A setting that is a number.
+#[derive(Clone, Copy, Debug)]
+pub enum Number {
+    /// The most blocks that a program may run.
+    Bound,
+    /// The most bytes that a program may put out.
+    Limit,
+}
+
+/// A setting.
+#[derive(Clone, Copy, Debug)]
+pub enum Kind {
+    Counted(Number),
+    /// Whether the memory is shown.
+    Dump,
+}
+
+/// A row of the table of numbers: the name, the least and the greatest value, and the value where none is given.
+#[derive(Clone, Copy, Debug)]
+struct Row {
+    name: &'static [u8],
+    least: u32,
+    most: u32,
+    usual: u32,
+}
+
+impl Number {
+    fn row(self) -> Row
+        ensures { shown_row result ≡ row_of self }
+    {
+        match self {
+            Number::Bound => Row {
+                name: b"bound=",
+                least: 1,
+                most: 1_000_000,
+                usual: 100_000,
+            },
+            Number::Limit => Row {
+                name: b"limit=",
+                least: 1,
+                most: 1_048_576,
+                usual: 65_536,
+            },
+        }
+    }
+}
+
+impl Kind {
+    /// The name, its `=` included.
+    fn name(self) -> &'static [u8]
+        ensures { result.now ≡ name_of self }
+    {
+        match self {
+            Kind::Counted(number) => number.row().name,
+            Kind::Dump => b"dump=",
+        }
+    }
+}
+
+/// The settings that were given.
+#[derive(Clone, Copy, Debug)]
+pub struct Settings {
+    bound: Option<u32>,
+    limit: Option<u32>,
+    dump: bool,
+}
+
+impl Model for Settings {
+    ghost use Rattle.tinker_words.specs.Settings.{Settings};
+
+    ghost Value = { Settings };
+
+    ghost use Rattle.tinker_words.specs.Rows.{given_settings, AreWithin};
+
+    ghost view = { given_settings };
+
+    ghost inverse = { λ s. record { bound = s.bound; limit = s.limit; dump = s.dump } };
+
+    ghost invariant = { AreWithin };
+}
+
+/// Whether a text begins with a prefix.
+pub(crate) fn begins(text: &[u8], prefix: &[u8]) -> bool
+    ensures { result ≡ begins_with prefix.now text.now }
+{
+    text.starts_with(prefix)
+}
+
+/// What a text has behind its first `count` bytes.
+fn behind(count: usize, text: &[u8]) -> &[u8]
+    ensures { result.now ≡ drop count text.now }
+{
+    &text[count.min(text.len())..]
+}
+
+/// The setting that a word names, of those that a command has.
+fn setting(kinds: &[Kind], word: &[u8]) -> Option<Kind>
+    ensures { result ≡ setting_in kinds.now word.now }
+{
+    kinds.iter().copied().find(|kind| begins(word, kind.name()))
+}
+
+/// A number that is in its range, and wasn't given before.
+fn first_number(row: &Row, before: Option<u32>, value: Option<u64>) -> Option<u32>
+    ensures value { result ≡ first_of (shown_row row.now) before value }
+    ensures most { IfSome result (λ n. n ≤ row.now.most) }
+{
+    match (before, value) {
+        (None, Some(n)) if u64::from(row.least) <= n && n <= u64::from(row.most) => Some(n as u32),
+        _ => None,
+    }
+}
+
+impl Settings {
+    /// Nothing is given.
+    pub fn none() -> Self
+        ensures { result ≡ unset }
+    {
+        Settings {
+            bound: None,
+            limit: None,
+            dump: false,
+        }
+    }
+
+    fn given(&self, number: Number) -> Option<u32>
+        ensures value { result ≡ given self.now number }
+        ensures most { IfSome result (λ v. v ≤ (row_of number).most) }
+    {
+        match number {
+            Number::Bound => self.bound,
+            Number::Limit => self.limit,
+        }
+    }
+
+    /// A number, where it is given or else its usual value.
+    pub fn number(&self, number: Number) -> u32
+        ensures value { result ≡ number_of self.now number }
+        ensures most { result ≤ (row_of number).most }
+    {
+        self.given(number).unwrap_or(number.row().usual)
+    }
+
+    /// Whether the memory is shown.
+    pub fn dump(&self) -> bool
+        ensures { result ≡ self.now.dump }
+    {
+        self.dump
+    }
+
+    /// The settings with a number that is in its range; None where it isn't, or where it was given before.
+    fn with_counted(self, number: Number, value: &[u8]) -> Option<Self>
+        ensures { result ≡ counted self number value.now }
+    {
+        let row = number.row();
+        let count = first_number(&row, self.given(number), decimal(value))?;
+        Some(match number {
+            Number::Bound => Settings {
+                bound: Some(count),
+                ..self
+            },
+            Number::Limit => Settings {
+                limit: Some(count),
+                ..self
+            },
+        })
+    }
+
+    fn with_dump(self, value: &[u8]) -> Option<Self>
+        ensures { result ≡ dumped self value.now }
+    {
+        if self.dump || value != b"yes".as_slice() {
+            return None;
+        }
+        Some(Settings { dump: true, ..self })
+    }
+
+    /// The settings with one more of this value; None where the value is faulty, or the setting was given before.
+    fn with(self, kind: Kind, value: &[u8]) -> Option<Self>
+        ensures { result ≡ with_value self kind value.now }
+    {
+        match kind {
+            Kind::Counted(number) => self.with_counted(number, value),
+            Kind::Dump => self.with_dump(value),
+        }
+    }
+
+    /// The settings that the words begin with, behind these, and the words behind them; None where one is faulty.
+    pub(crate) fn and_then<'a>(
+        self,
+        kinds: &[Kind],
+        words: &'a [String],
+    ) -> Option<(Self, &'a [String])>
+        ensures { option_map (λ r. (r.0, map string_bytes r.1.now)) result ≡ settings_of kinds.now self
+            (map string_bytes words.now) }
+    {
+        match words {
+            [] => Some((self, words)),
+            [word, rest @ ..] => match setting(kinds, word.as_bytes()) {
+                None => Some((self, words)),
+                Some(kind) => {
+                    let value = behind(kind.name().len(), word.as_bytes());
+                    self.with(kind, value)?.and_then(kinds, rest)
+                }
+            },
+        }
+    }
+}

@@ -1,0 +1,76 @@
+// The files of a transcript, and the hosts on which its commands run: a host has the files that a command's words name, and
+// gives back those that it kept.
+use super::trouble::Trouble;
+use std::alloc::Global;
+use std::collections::BTreeMap;
+use tnk_base::{Asked, MemoryHost};
+
+/// Files by name.
+#[derive(Drop)]
+pub struct Files {
+    alloc: Global,
+    by_name: BTreeMap<String, Vec<u8>>,
+}
+
+impl Files {
+    /// No files.
+    pub fn new(alloc: Global) -> Self {
+        Files {
+            alloc,
+            by_name: BTreeMap::new(alloc),
+        }
+    }
+
+    /// The bytes of a file.
+    pub fn find(&self, name: &str) -> Result<&[u8], Trouble> {
+        match self.by_name.get(name) {
+            Some(bytes) => Ok(bytes),
+            None => Err(Trouble::NoFile),
+        }
+    }
+
+    /// Makes a file, in place of one of that name.
+    pub fn put(&mut self, name: &str, bytes: Vec<u8>) -> Result<(), Trouble> {
+        let name = String::from_str(self.alloc, name)?;
+        self.by_name.insert(name, bytes)?;
+        Ok(())
+    }
+
+    /// A host with the files that the words name, the calls of these numbers failing.
+    pub fn host(&self, words: &[String], failing: &[u64]) -> Result<MemoryHost, Trouble> {
+        let mut host = MemoryHost::new(self.alloc, failing.to_vec(self.alloc)?);
+        for word in words {
+            self.give(&mut host, word)?;
+            if let Some((_, name)) = word.split_once('=') {
+                self.give(&mut host, name)?;
+            }
+        }
+        Ok(host)
+    }
+
+    fn give(&self, host: &mut MemoryHost, name: &str) -> Result<(), Trouble> {
+        if let Ok(bytes) = self.find(name) {
+            host.with(name, bytes)?;
+        }
+        Ok(())
+    }
+
+    /// Takes back the files that the host was asked to keep.
+    pub fn take_kept(&mut self, host: &MemoryHost) -> Result<(), Trouble> {
+        for call in host.asked() {
+            if let Asked::Keep(name) = call {
+                self.take(host, name.bytes())?;
+            }
+        }
+        Ok(())
+    }
+
+    fn take(&mut self, host: &MemoryHost, name: &[u8]) -> Result<(), Trouble> {
+        if let Ok(name) = str::from_utf8(name)
+            && let Some(bytes) = host.file(name)
+        {
+            self.put(name, bytes.to_vec(self.alloc)?)?;
+        }
+        Ok(())
+    }
+}
