@@ -8,6 +8,9 @@ import sys
 # The description: width, units of I M L P B, latencies of alu mul div load store io cmp pbr branch.
 WIDE = (16, 8, 8, 8, 8, 8) + (1,) * 9
 
+# A description with busy times, in the order of the latencies: products take two cycles, and keep their unit for both.
+BUSY = (16, 8, 8, 8, 8, 8) + (1, 2) + (1,) * 7 + (1, 2) + (1,) * 7
+
 UNITS = {"I": 0, "M": 1, "L": 2, "P": 3, "B": 4}
 
 
@@ -49,11 +52,12 @@ def halt(s, head=True):
 
 
 def image(pages, blocks, memory=0, init=b"", description=WIDE):
-    """The file of an image that begins at its first block; a block is its entry and its words."""
+    """The file of an image that begins at its first block; a block is its entry and its words. With busy times in its
+    description it is of version 2."""
     words = [0] * (512 * pages)
     for entry, block in blocks:
         words[entry : entry + len(block)] = block
-    header = struct.pack(">4sHHIIII", b"TNKI", 1, pages, len(blocks), blocks[0][0], memory, len(init))
+    header = struct.pack(">4sHHIIII", b"TNKI", 1 if len(description) == 15 else 2, pages, len(blocks), blocks[0][0], memory, len(init))
     rows = b"".join(struct.pack(">IH", entry, len(block)) for entry, block in blocks)
     return header + bytes(description) + rows + init + struct.pack(f">{len(words)}Q", *words)
 
@@ -64,15 +68,15 @@ def loop():
     return image(1, [(0, block)], memory=1_048_576)
 
 
-def single_words():
+def single_words(description=WIDE):
     """As many blocks as there can be, of one operation each, and as many bytes as an image can have."""
-    return image(256, [(k, [halt(0)]) for k in range(131_072)], 1_048_576, bytes(1_048_576))
+    return image(256, [(k, [halt(0)]) for k in range(131_072)], 1_048_576, bytes(1_048_576), description)
 
 
-def full_pages():
+def full_pages(description=WIDE):
     """A block on each page that fills it, with eight operations in nearly each MultiOp."""
     adds = [addi(1 + k % 8, 9 + k % 16, k, head=k % 8 == 0) for k in range(511)]
-    return image(256, [(512 * n, adds + [halt(0)]) for n in range(256)], 1_048_576, bytes(1_048_576))
+    return image(256, [(512 * n, adds + [halt(0)]) for n in range(256)], 1_048_576, bytes(1_048_576), description)
 
 
 def dense():
@@ -93,7 +97,15 @@ def dense():
 
 
 def main():
-    for name, make in [("loop", loop), ("single_words", single_words), ("full_pages", full_pages), ("dense", dense)]:
+    images = {
+        "loop": loop,
+        "single_words": single_words,
+        "single_words_2": lambda: single_words(BUSY),
+        "full_pages": full_pages,
+        "full_pages_2": lambda: full_pages(BUSY),
+        "dense": dense,
+    }
+    for name, make in images.items():
         with open(os.path.join(sys.argv[1], name), "wb") as out:
             out.write(make())
 

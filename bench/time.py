@@ -51,8 +51,8 @@ def main():
     program = os.path.abspath(sys.argv[1] if len(sys.argv) > 1 else os.path.join(here, "../crates/tinker/out/tinker"))
     with tempfile.TemporaryDirectory() as folder:
         subprocess.run([sys.executable, os.path.join(here, "images.py"), folder], check=True)
-        measure(program, folder, ["check", "single_words"])
-        measure(program, folder, ["check", "full_pages"])
+        for name in ["single_words", "single_words_2", "full_pages", "full_pages_2"]:
+            measure(program, folder, ["check", name])
         measure(program, folder, ["meaning", "loop", "-"])
         measure(program, folder, ["run", "loop", "own", "-"])
         compare(program, here, folder)
