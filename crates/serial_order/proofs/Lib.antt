@@ -6,3 +6,4 @@ pub mod Stuck
 pub mod Front
 pub mod Existence
 pub mod Progress
+pub mod Earlier

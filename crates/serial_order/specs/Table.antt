@@ -1,7 +1,7 @@
 -- The table of delays of a block's operations.
 use Rattle.std.specs.Prelude.{ℕ, ◌≡◌, ◌+◌, ◌*◌, ◌≤◌, ◌&&◌, Bool, nat_lt, if◌then◌else◌, List, length, slice_index_or, Option, None, is_some, ℤ}
 
--- a row of cells for each operation, which are the delays of that operation before each
+-- a row of cells for each operation, which are the delays of that operation before each; cells behind the rows are spare
 pub record Table : Type 0 where
   pub count : ℕ
   pub cells : List (Option ℤ)
@@ -14,8 +14,12 @@ delay_of t i j = if nat_lt i t.count && nat_lt j t.count then slice_index_or t.c
 abbrev pub before : Table → ℕ → ℕ → Bool
 before t i j = is_some (delay_of t i j)
 
+-- a table has room for so many operations
+abbrev pub HasRoom : Table → ℕ → Type 0
+HasRoom t most = most * most ≤ length t.cells
+
 -- a table of at most 512 operations, in which nothing is before itself
 pub record IsTable (t : Table) : Type 0 where
   pub few : t.count ≤ 512
-  pub size : length t.cells ≡ t.count * t.count
+  pub room : HasRoom t t.count
   pub itself : (i : ℕ) → delay_of t i i ≡ None

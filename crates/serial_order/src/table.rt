@@ -1,8 +1,8 @@
 // The table of delays.
 #![tactic(auto, unfolding(crate::specs::Table::delay_of))]
 
-ghost use Rattle.std.specs.Prelude.{◌≡◌, ◌<◌, ◌≤◌, ◌+◌, ◌*◌, ℕ, IsTrue, IfOk, Some, None, length};
-ghost use Rattle.serial_order.specs.Table.{Table, delay_of, before, IsTable};
+ghost use Rattle.std.specs.Prelude.{◌≡◌, ◌<◌, ◌≤◌, ◌+◌, ◌*◌, ℕ, IsTrue, IfOk, Some, None, length, slice_index_or};
+ghost use Rattle.serial_order.specs.Table.{Table, delay_of, before, HasRoom, IsTable};
 
 use std::alloc::Global;
 use std::marker::Model;
@@ -30,6 +30,17 @@ fn place(count: u16, i: u16, j: u16) -> usize
     i as usize * count as usize + j as usize
 }
 
+/// Empties so many cells.
+fn empty(cells: &mut [Option<i8>], size: usize)
+    requires { size ≤ length cells.old }
+    ensures length { length cells.new ≡ length cells.old }
+    ensures empty { (k : ℕ) → k < size → slice_index_or cells.new k None ≡ None }
+{
+    for k in 0..size {
+        cells[k] = None;
+    }
+}
+
 impl Delays {
     /// A table over n operations, at most 512, of which none is before another.
     pub fn new(alloc: Global, n: u16) -> Result<Self, NoMemory>
@@ -37,11 +48,34 @@ impl Delays {
         ensures count { IfOk result (λ d. d.count ≡ n) }
         ensures none { IfOk result (λ d. (i j : ℕ) → delay_of d i j ≡ None) }
     {
-        let size = n as usize * n as usize;
+        Delays::with_room(alloc, n)
+    }
+
+    /// A table over `most` operations, at most 512, of which none is before another. It has room to be restarted with as
+    /// many.
+    pub fn with_room(alloc: Global, most: u16) -> Result<Self, NoMemory>
+        requires { most ≤ 512 }
+        ensures count { IfOk result (λ d. d.count ≡ most) }
+        ensures none { IfOk result (λ d. (i j : ℕ) → delay_of d i j ≡ None) }
+        ensures room { IfOk result (λ d. HasRoom d most) }
+    {
+        let size = most as usize * most as usize;
         Ok(Delays {
-            count: n,
+            count: most,
             cells: vec![in alloc; None; size]?,
         })
+    }
+
+    /// Makes it a table over n operations, of which none is before another. It takes no memory.
+    pub fn restart(&mut self, n: u16)
+        requires few { n ≤ 512 }
+        requires room { HasRoom self.old n }
+        ensures count { self.new.count ≡ n }
+        ensures none { (i j : ℕ) → delay_of self.new i j ≡ None }
+        ensures room { (most : ℕ) → HasRoom self.old most → HasRoom self.new most }
+    {
+        self.count = n;
+        empty(&mut self.cells, n as usize * n as usize);
     }
 
     /// How many operations it is over, at most 512.
@@ -60,6 +94,7 @@ impl Delays {
         requires second { j < self.old.count }
         requires differ { i ≡ j → ⊥ }
         ensures count { self.new.count ≡ self.old.count }
+        ensures room { (most : ℕ) → HasRoom self.old most → HasRoom self.new most }
         ensures here { delay_of self.new i j ≡ Some delay }
         ensures elsewhere { (a b : ℕ) → (a ≡ i → b ≡ j → ⊥) → delay_of self.new a b ≡ delay_of self.old a b }
     {

@@ -14,7 +14,7 @@ use Rattle.serial_order.proofs.Members.{earlier_right}
 use Rattle.two_timings.specs.Timing.{Timing, lands, BothWriteAt, LandApart, KeepListOrder}
 use Rattle.two_timings.specs.Before.{Before, Read, ReadOld, Write, Load, LoadOld, Stores, Issue, IsSerialOrder}
 use Rattle.two_timings.specs.Law.{OwnTimesAgree}
-use Rattle.two_timings.proofs.Lists.{earlier_left, never_both, distinct, which_earlier}
+use Rattle.serial_order.proofs.Earlier.{earlier_left, never_both, distinct, which_earlier}
 use Rattle.two_timings.proofs.Ordered.{keep-flip}
 
 same_family-flip : (f g : Option Family) → same_family f g ≡ same_family g f

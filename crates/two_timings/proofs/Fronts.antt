@@ -2,7 +2,7 @@
 use Rattle.std.proofs.Common.{◌≡◌, ℕ, suc, ◌+◌, length, arith, List, [], ◌∷◌, ◌⊎◌, inl, inr, refl, sym, ap, subst}
 use Rattle.std.specs.Prelude.{slice_get}
 use Rattle.serial_order.specs.Lists.{Among, Earlier, EachOnce}
-use Rattle.two_timings.proofs.Lists.{earlier_left, never_both, distinct, which_earlier}
+use Rattle.serial_order.proofs.Earlier.{earlier_left, never_both, distinct, which_earlier}
 
 -- the reverse of a list, and then another
 abbrev pub onto : List ℕ → List ℕ → List ℕ

@@ -1,5 +1,4 @@
 -- lemmas
-pub mod Lists
 pub mod Fronts
 pub mod Ordered
 pub mod Conflicts

@@ -16,7 +16,7 @@ use Rattle.timed_meaning.specs.Block.{Start, Progress, Act, Ran, Through, Stoppe
 use Rattle.serial_order.specs.Lists.{Among, Earlier}
 use Rattle.two_timings.specs.Timing.{HasOneBranch, timed, timed_ops}
 use Rattle.two_timings.specs.Law.{EndsAlike, TimingsThatAgreeDoTheSame}
-use Rattle.two_timings.proofs.Lists.{which_earlier}
+use Rattle.serial_order.proofs.Earlier.{which_earlier}
 use Rattle.two_timings.proofs.Fronts.{onto, among_onto, among_right, front_among, Stand, stand, before_past, onto_at}
 use Rattle.two_timings.proofs.Effects.{place_of}
 use Rattle.two_timings.proofs.Acts.{act_trap, act_local, outb_traps}

@@ -1,4 +1,4 @@
--- Lists of numbers: what stands in them, what stands earlier, and which are equal.
+-- What stands earlier in a list of numbers, and which lists are equal.
 use Rattle.std.proofs.Common.{◌≡◌, ◌≢◌, ℕ, Bool, true, false, cond, List, [], ◌∷◌, ◌⊎◌, inl, inr, refl, sym, ap, subst, ◌∙◌}
 use Rattle.std.specs.Prelude.{filter}
 use Rattle.serial_order.specs.Lists.{Among, Earlier, EachOnce}
