@@ -1,0 +1,69 @@
+-- From the last operation of the order to the first.
+use Rattle.std.proofs.Common.{◌≡◌, ◌≢◌, ◌<◌, ◌≤◌, ◌+◌, ◌-◌, ◌*◌, ℕ, suc, List, length, [], get_or, set, take, drop, arith, subst, sym, inl, inr, get_or-set_other, get_or-set_same}
+use Rattle.std.proofs.Math.ListN.{length-set}
+use Rattle.std.specs.Prelude.{pos, slice_index}
+use Rattle.std.proofs.lemmas.Bool.{cases_eq}
+use Rattle.serial_order.specs.Lists.{Among}
+use Rattle.list_sched.specs.Extremes.{IsGreatest}
+use Rattle.list_sched.proofs.Lists.{onto}
+use Rattle.list_sched.specs.Schedule.{Climb}
+use Rattle.list_sched.proofs.Exists.{heights_step}
+use Rattle.list_sched.specs.Given.{problem_of}
+use Rattle.list_sched.proofs.Positions.{among_at}
+use Rattle.list_sched.proofs.Climbs.{serial_of, serial_length, split_onto, drop_at}
+use Rattle.list_sched.proofs.height.heights.Goals as goal
+
+other_kept : (xs : List ℕ) (i c k : ℕ) → k ≢ i → get_or (set xs i c) k 0 ≡ get_or xs k 0
+other_kept xs i c k ne = rw get_or-set_other
+
+same_set : (xs : List ℕ) (i c : ℕ) → i < length xs → get_or (set xs i c) i 0 ≡ c
+same_set xs i c lt = rw get_or-set_same
+
+pub height_of-height-requires-clause-inside : goal.height_of-height-requires-clause-inside
+height_of-height-requires-clause-inside g c = (c.requires.serial.complete _).0 (among_at c.args.order.now (c.loop-k.k - 1) (let t = c.loop-k-test.true in let a = c.loop-k.auto in omega arith))
+
+pub height_of-height-requires-clause-small : goal.height_of-height-requires-clause-small
+height_of-height-requires-clause-small g c k lt =
+    let s = c.loop-k.invariant.small k lt in
+    let l = serial_length (problem_of c.args.d.now c.args.kinds.now (g.G.Generation.description c.args.g.now)) c.args.order.now (serial_of (problem_of c.args.d.now c.args.kinds.now (g.G.Generation.description c.args.g.now)) c.requires.problem c.args.order.now c.requires.serial) in
+    let f = c.requires.problem.few in
+    subst (λ m. slice_index m k < 1048576) (sym c.deref.ensures.value) (omega arith)
+
+pub index_mut-requires : goal.index_mut-requires
+index_mut-requires g c =
+    let i = (c.requires.serial.complete _).0 (among_at c.args.order.now (c.loop-k.k - 1) (let t = c.loop-k-test.true in let a = c.loop-k.auto in omega arith)) in
+    let s = c.loop-k.invariant.size in
+    let v = c.loop-k.heights.ok.0 in
+    omega arith
+
+pub loop-k-preserved : goal.loop-k-preserved
+loop-k-preserved g c =
+    let order = c.args.order.now in
+    let k = c.loop-k.k - 1 in
+    let x = get_or order k 0 in
+    let xs = c.loop-k.heights.items in
+    let v = c.height_of-height.result in
+    let lt : k < length order = (let t = c.loop-k-test.true in let a = c.loop-k.auto in omega arith) in
+    let inside : x < c.args.d.now.count = (c.requires.serial.complete x).0 (among_at order k lt) in
+    let size = c.loop-k.invariant.size in
+    let bound : x < length xs = omega arith in
+    let here : get_or (set xs x v) x 0 ≡ v = same_set xs x v bound in
+    let top : IsGreatest (Climb (problem_of c.args.d.now c.args.kinds.now (g.G.Generation.description c.args.g.now)) (slice_index xs) x) (pos v) = subst (λ m. IsGreatest (Climb (problem_of c.args.d.now c.args.kinds.now (g.G.Generation.description c.args.g.now)) (slice_index m) x) (pos v)) c.deref.ensures.value c.height_of-height.ensures.greatest in
+    let next : suc k ≡ c.loop-k.k = (let t = c.loop-k-test.true in omega arith) in
+    let near : v ≤ (32 * length order - 32 * c.loop-k.k) + 32 = c.height_of-height.ensures.near (32 * length order - 32 * c.loop-k.k) (λ j l. subst (λ m. slice_index m j ≤ 32 * length order - 32 * c.loop-k.k) (sym c.deref.ensures.value) (let s = c.loop-k.invariant.small j l in omega arith)) in
+    record {
+      size = omega (arith, length-set {A = ℕ});
+      small = λ j l. elim (cases_eq j x) [
+        | inl e ↦ subst (λ m. get_or (set xs x v) m 0 + 32 * k ≤ 32 * length order) (sym e) (let t = c.loop-k-test.true in let a = c.loop-k.auto in omega arith)
+        | inr f ↦ (let o = other_kept xs x v j f in let s = c.loop-k.invariant.small j l in omega arith)
+      ];
+      are = λ i a. heights_step (problem_of c.args.d.now c.args.kinds.now (g.G.Generation.description c.args.g.now)) c.requires.problem order (serial_of (problem_of c.args.d.now c.args.kinds.now (g.G.Generation.description c.args.g.now)) c.requires.problem order c.requires.serial) (onto (take k order) []) (drop (suc k) order) x (split_onto order k lt) (slice_index xs) (slice_index (set xs x v)) v
+          (λ j f. other_kept xs x v j f) here top
+          (λ j m. c.loop-k.invariant.are j (subst (λ n. Among j (drop n order)) next m)) i
+          (subst (Among i) (drop_at order k lt) a);
+    }
+
+pub returns-clause-high : goal.returns-clause-high
+returns-clause-high g c = λ i lt.
+    let zero : c.loop-k.k ≡ 0 = (let t = c.loop-k-test.false in omega arith) in
+    c.loop-k.invariant.are i (subst (λ n. Among i (drop n c.args.order.now)) (sym zero) ((c.requires.serial.complete i).1 lt))
