@@ -7,8 +7,6 @@ use block_table::Table;
 use latency_deps::{BlockFault, BlockRule, GoodBlock, GoodPage, analyse};
 use operation::{AluKind, Op};
 use std::alloc::Global;
-use std::process::Abort;
-use std::test::Fail;
 
 /// Words with the rule that they break first, and its least operation.
 type Refused = (Numbers, &'static [u64], BlockRule, u16);
@@ -504,18 +502,23 @@ const UNORDERED: [Refused; 16] = [
     ),
 ];
 
-/// What is answered of the words under a description with these numbers, where the entries are 0 and 7.
+/// What is answered of some words under a description with these numbers, where the entries are 0 and 7.
 pub(crate) fn answer(
-    rt: &impl Abort,
     alloc: Global,
-    numbers: Numbers,
+    numbers: &Numbers,
     words: &[u64],
-) -> Result<Result<GoodBlock, BlockFault>, Fail> {
-    assert!(rt; !words.is_empty() && words.len() <= 512);
-    let Ok(table) = Table::new(alloc, &[(0, 7), (7, 500)], 1, 0) else {
-        return Err(Fail::from("no table"));
-    };
-    Ok(analyse(alloc, words, &described(rt, numbers), &table))
+) -> Option<Result<GoodBlock, BlockFault>> {
+    if words.is_empty() || words.len() > 512 {
+        return None;
+    }
+    let description = described(numbers)?;
+    let table = Table::new(alloc, &[(0, 7), (7, 500)], 1, 0).ok()?;
+    Some(analyse(alloc, words, &description, &table))
+}
+
+/// The block that the words are under that description.
+pub(crate) fn good_block(alloc: Global, numbers: &Numbers, words: &[u64]) -> Option<GoodBlock> {
+    answer(alloc, numbers, words)?.ok()
 }
 
 const KEPT: [Accepted; 8] = [
@@ -617,74 +620,89 @@ const KEPT: [Accepted; 8] = [
     ),
 ];
 
-fn is_refused(rt: &impl Abort, alloc: Global, case: &Refused) -> Result<(), Fail> {
+/// Whether a rule is the first that words break, and an operation is the least one that does.
+fn break_first(alloc: Global, numbers: &Numbers, words: &[u64], rule: BlockRule, k: u16) -> bool {
+    match answer(alloc, numbers, words) {
+        Some(Err(fault)) => fault == BlockFault::Broken(rule, k),
+        _ => false,
+    }
+}
+
+fn is_refused(alloc: Global, case: &Refused) -> bool {
     let (numbers, words, rule, k) = *case;
-    let fault = answer(rt, alloc, numbers, words)?.err();
-    assert_eq!(rt; fault, Some(BlockFault::Broken(rule, k)), "{words:?}");
-    Ok(())
+    break_first(alloc, &numbers, words, rule, k)
 }
 
 #[test]
-fn broken_rules(rt: HostRuntime) -> Result<(), Fail> {
-    for case in &BROKEN {
-        is_refused(&rt, rt.alloc(), case)?;
+fn broken_rules(rt: HostRuntime) {
+    for (row, case) in BROKEN.iter().enumerate() {
+        assert!(rt; is_refused(rt.alloc(), case), "row {row}");
     }
-    for case in &UNORDERED {
-        is_refused(&rt, rt.alloc(), case)?;
-    }
-    Ok(())
 }
 
-fn is_accepted(rt: &impl Abort, alloc: Global, case: &Accepted) -> Result<(), Fail> {
+#[test]
+fn words_without_an_order(rt: HostRuntime) {
+    for (row, case) in UNORDERED.iter().enumerate() {
+        assert!(rt; is_refused(rt.alloc(), case), "row {row}");
+    }
+}
+
+/// Compares the word, the issue cycle and the latency of an operation.
+fn has_operation(block: &GoodBlock, i: u16, word: u64, time: (u32, u8)) -> bool {
+    if i >= block.count() {
+        return false;
+    }
+    let timed = block.timed(i);
+    block.word(i) == word
+        && (block.at(i), block.latency(i)) == time
+        && (timed.at, timed.latency) == time
+}
+
+fn has_operations(block: &GoodBlock, words: &[u64], times: &[(u32, u8)]) -> bool {
+    for (i, (word, time)) in (0..512).zip(words.iter().zip(times)) {
+        if !has_operation(block, i, *word, *time) {
+            return false;
+        }
+    }
+    block.count() as usize == words.len() && times.len() == words.len()
+}
+
+fn is_accepted(alloc: Global, case: &Accepted) -> bool {
     let (numbers, words, times, end) = *case;
-    let Ok(block) = answer(rt, alloc, numbers, words)? else {
-        return Err(Fail::from("refused"));
+    let Some(block) = good_block(alloc, &numbers, words) else {
+        return false;
     };
-    assert_eq!(rt; block.count() as usize, words.len());
-    assert_eq!(rt; times.len(), words.len());
-    for i in 0..block.count() {
-        let time = times[i as usize];
-        assert_eq!(rt; block.word(i), words[i as usize]);
-        assert_eq!(rt; (block.at(i), block.latency(i)), time, "{words:?}");
-        assert_eq!(rt; (block.timed(i).at, block.timed(i).latency), time);
-    }
-    assert_eq!(rt; block.end(), end);
-    assert_eq!(rt; block.op(0).guard, 0);
-    Ok(())
+    has_operations(&block, words, times) && block.end() == end && block.op(0).guard == 0
 }
 
 #[test]
-fn kept_rules(rt: HostRuntime) -> Result<(), Fail> {
-    for case in &KEPT {
-        is_accepted(&rt, rt.alloc(), case)?;
+fn kept_rules(rt: HostRuntime) {
+    for (row, case) in KEPT.iter().enumerate() {
+        assert!(rt; is_accepted(rt.alloc(), case), "row {row}");
     }
-    Ok(())
+}
+
+fn is_operation(block: &GoodBlock, i: u16, op: Op) -> bool {
+    i < block.count() && block.op(i).op == op
 }
 
 /// 511 times `addi r1, r1, 1`, each in a MultiOp of its own, and then `halt r1`.
 #[test]
-fn the_longest_block(rt: HostRuntime) -> Result<(), Fail> {
+fn the_longest_block(rt: HostRuntime) {
     let mut words = [0x8008_8021_0000_0001; 512];
     words[511] = 0xA02A_0001_0000_0000;
-    let Ok(block) = answer(&rt, rt.alloc(), T1, &words)? else {
-        return Err(Fail::from("refused"));
-    };
-    assert_eq!(rt; (block.count(), block.end()), (512, 512));
-    assert_eq!(rt; block.op(0).op, Op::AluImm(AluKind::Add, 1, 1, 1));
-    if block.count() == 512 {
-        assert_eq!(rt; block.op(511).op, Op::Halt(1));
-    }
-    let fault = answer(&rt, rt.alloc(), T2, &words)?.err();
-    assert_eq!(rt; fault, Some(BlockFault::Broken(BlockRule::BranchEnd, 511)));
-    Ok(())
+    let block = good_block(rt.alloc(), &T1, &words).expect(&rt, "no rule is broken");
+    assert!(rt; (block.count(), block.end()) == (512, 512));
+    assert!(rt; is_operation(&block, 0, Op::AluImm(AluKind::Add, 1, 1, 1)));
+    assert!(rt; is_operation(&block, 511, Op::Halt(1)));
+    assert!(rt; break_first(rt.alloc(), &T2, &words, BlockRule::BranchEnd, 511));
 }
 
 /// The page without a block.
 #[test]
-fn the_empty_page(rt: HostRuntime) -> Result<(), Fail> {
+fn the_empty_page(rt: HostRuntime) {
     let alloc = rt.alloc();
-    let page = GoodPage::new(alloc, &[0; 512], Vec::new(alloc))?;
-    assert_eq!(rt; page.words().len(), 512);
-    assert_eq!(rt; page.blocks(), 0);
-    Ok(())
+    let page = GoodPage::new(alloc, &[0; 512], Vec::new(alloc)).expect(&rt, "there is memory");
+    assert!(rt; page.words().len() == 512);
+    assert!(rt; page.blocks() == 0);
 }

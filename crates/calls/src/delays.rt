@@ -2,13 +2,11 @@
 // the format, and the orders, pairs and delays worked out by hand, apart from the code.
 ghost use Rattle.std.specs.Prelude.{◌≤◌};
 
-use super::blocks::answer;
+use super::blocks::good_block;
 use super::descriptions::{LONG, Numbers, SHORT, T1, T2, T3, described};
 use latency_deps::delays;
 use serial_order::{Delays, OrderFault, order};
-use std::alloc::Global;
-use std::process::Abort;
-use std::test::Fail;
+use std::alloc::{AllocError, Global};
 
 /// Operations before others, and the delays that are set one after another.
 const SET: [Pair; 3] = [(0, 2, -31), (2, 1, 32), (0, 2, 5)];
@@ -25,25 +23,31 @@ const GOT: [(u16, u16, Option<i8>); 7] = [
 ];
 
 /// A table over n operations with these pairs.
-fn table(rt: &impl Abort, alloc: Global, n: u16, pairs: &[Pair]) -> Result<Delays, Fail> {
-    assert!(rt; n <= 512);
-    let mut d = Delays::new(alloc, n)?;
+fn table(alloc: Global, n: u16, pairs: &[Pair]) -> Option<Delays> {
+    if n > 512 {
+        return None;
+    }
+    let mut d = Delays::new(alloc, n).ok()?;
     for (i, j, delay) in pairs {
-        assert!(rt; *i < d.count() && *j < d.count() && *i != *j);
+        if *i >= d.count() || *j >= d.count() || *i == *j {
+            return None;
+        }
         d.set(*i, *j, *delay);
     }
-    Ok(d)
+    Some(d)
+}
+
+fn is_got(d: &Delays, i: u16, j: u16, want: Option<i8>) -> bool {
+    i < d.count() && j < d.count() && d.get(i, j) == want
 }
 
 #[test]
-fn delays_are_kept(rt: HostRuntime) -> Result<(), Fail> {
-    let d = table(&rt, rt.alloc(), 3, &SET)?;
-    assert_eq!(rt; d.count(), 3);
-    for (i, j, want) in GOT {
-        assert!(rt; i < d.count() && j < d.count());
-        assert_eq!(rt; d.get(i, j), want, "{i} {j}");
+fn delays_are_kept(rt: HostRuntime) {
+    let d = table(rt.alloc(), 3, &SET).expect(&rt, "there is memory");
+    assert!(rt; d.count() == 3);
+    for (row, (i, j, want)) in GOT.iter().enumerate() {
+        assert!(rt; is_got(&d, *i, *j, *want), "row {row}");
     }
-    Ok(())
 }
 
 /// A number of operations and pairs, and their order, or the least operation that is stuck.
@@ -68,48 +72,46 @@ const ORDERED: [Ordered; 8] = [
     (4, &[(3, 1, 1), (1, 2, 1), (2, 1, 1), (0, 3, 1)], Err(1)),
 ];
 
-fn has_order(rt: &impl Abort, alloc: Global, case: &Ordered) -> Result<(), Fail> {
+fn has_order(alloc: Global, case: &Ordered) -> bool {
     let (n, pairs, want) = *case;
-    let d = table(rt, alloc, n, pairs)?;
-    match (order(alloc, &d), want) {
-        (Ok(found), Ok(list)) => assert_eq!(rt; found.as_slice(), list, "{pairs:?}"),
-        (Err(found), Err(least)) => assert_eq!(rt; found, OrderFault::Cycle(least), "{pairs:?}"),
-        _ => return Err(Fail::from("an order and a cycle")),
-    }
-    Ok(())
-}
-
-/// A table over the operations of the largest block, in which each is before those of lower numbers.
-fn largest(alloc: Global) -> Result<Delays, Fail> {
-    let mut d = Delays::new(alloc, 512)?;
-    for i in 0..d.count() {
-        for j in 0..i {
-            if i < d.count() {
-                d.set(i, j, 1);
-            }
-        }
-    }
-    Ok(d)
-}
-
-/// Their order is the other way round.
-fn largest_is_turned(rt: &impl Abort, alloc: Global) -> Result<(), Fail> {
-    let Ok(list) = order(alloc, &largest(alloc)?) else {
-        return Err(Fail::from("no order"));
+    let Some(d) = table(alloc, n, pairs) else {
+        return false;
     };
-    assert_eq!(rt; list.len(), 512);
-    for (found, want) in list.iter().zip((0..512).rev()) {
-        assert_eq!(rt; *found, want);
+    match (order(alloc, &d), want) {
+        (Ok(found), Ok(list)) => found.as_slice() == list,
+        (Err(found), Err(least)) => found == OrderFault::Cycle(least),
+        _ => false,
     }
-    Ok(())
 }
 
 #[test]
-fn orders(rt: HostRuntime) -> Result<(), Fail> {
-    for case in &ORDERED {
-        has_order(&rt, rt.alloc(), case)?;
+fn orders(rt: HostRuntime) {
+    for (row, case) in ORDERED.iter().enumerate() {
+        assert!(rt; has_order(rt.alloc(), case), "row {row}");
     }
-    largest_is_turned(&rt, rt.alloc())
+}
+
+/// Sets an operation before all those of lower numbers.
+fn set_before_lower(d: &mut Delays, i: u16) {
+    for j in 0..i {
+        if i < d.count() {
+            d.set(i, j, 1);
+        }
+    }
+}
+
+/// Of operations that come before those of lower numbers the order is the other way round.
+#[test]
+fn the_largest_order(rt: HostRuntime) {
+    let mut d = Delays::new(rt.alloc(), 512).expect(&rt, "there is memory");
+    for i in 0..512 {
+        set_before_lower(&mut d, i);
+    }
+    let list = order(rt.alloc(), &d).expect(&rt, "an order");
+    assert!(rt; list.len() == 512);
+    for (found, want) in list.iter().zip((0..512).rev()) {
+        assert!(rt; *found == want, "{want}");
+    }
 }
 
 /// An operation, one that it comes before, and the delay.
@@ -542,18 +544,13 @@ const LATENT: [Delayed; 3] = [
 ];
 
 /// The delays under another description in the block that words are under their own.
-fn delays_under(rt: &impl Abort, alloc: Global, case: &Delayed) -> Result<Delays, Fail> {
-    let (own, words, other, _) = *case;
-    let Ok(block) = answer(rt, alloc, own, words)? else {
-        return Err(Fail::from("refused"));
-    };
-    let d = delays(alloc, &block, &described(rt, other))?;
-    assert_eq!(rt; d.count(), block.count());
-    Ok(d)
+fn delays_under(alloc: Global, own: &Numbers, words: &[u64], other: &Numbers) -> Option<Delays> {
+    let block = good_block(alloc, own, words)?;
+    delays(alloc, &block, &described(other)?).ok()
 }
 
 /// Adds the pairs of an operation and those that it comes before.
-fn add_pairs(d: &Delays, i: u16, pairs: &mut Vec<Pair>) -> Result<(), Fail> {
+fn add_pairs(d: &Delays, i: u16, pairs: &mut Vec<Pair>) -> Result<(), AllocError> {
     for j in 0..d.count() {
         if i < d.count() && j < d.count() {
             if let Some(delay) = d.get(i, j) {
@@ -564,26 +561,37 @@ fn add_pairs(d: &Delays, i: u16, pairs: &mut Vec<Pair>) -> Result<(), Fail> {
     Ok(())
 }
 
-/// Compares all pairs of a table, by the first operation and then by the second, with those that are listed.
-fn has_these_pairs(rt: &impl Abort, alloc: Global, case: &Delayed) -> Result<(), Fail> {
-    let (_, words, _, expected) = *case;
-    let d = delays_under(rt, alloc, case)?;
+/// All pairs of a table, by the first operation and then by the second.
+fn pairs(alloc: Global, d: &Delays) -> Result<Vec<Pair>, AllocError> {
     let mut pairs = Vec::new(alloc);
     for i in 0..d.count() {
-        add_pairs(&d, i, &mut pairs)?;
+        add_pairs(d, i, &mut pairs)?;
     }
-    assert_eq!(rt; pairs.as_slice(), expected, "{words:?}");
-    Ok(())
+    Ok(pairs)
+}
+
+fn has_these_pairs(alloc: Global, case: &Delayed) -> bool {
+    let (own, words, other, expected) = *case;
+    let Some(d) = delays_under(alloc, &own, words, &other) else {
+        return false;
+    };
+    match pairs(alloc, &d) {
+        Ok(found) => found.as_slice() == expected && d.count() as usize == words.len(),
+        Err(_) => false,
+    }
 }
 
 /// The block's own times decide the pairs, and the latencies of the description that is given the delays.
 #[test]
-fn pairs_and_delays(rt: HostRuntime) -> Result<(), Fail> {
-    for case in &DELAYED {
-        has_these_pairs(&rt, rt.alloc(), case)?;
+fn pairs_and_delays(rt: HostRuntime) {
+    for (row, case) in DELAYED.iter().enumerate() {
+        assert!(rt; has_these_pairs(rt.alloc(), case), "row {row}");
     }
-    for case in &LATENT {
-        has_these_pairs(&rt, rt.alloc(), case)?;
+}
+
+#[test]
+fn delays_under_three_descriptions(rt: HostRuntime) {
+    for (row, case) in LATENT.iter().enumerate() {
+        assert!(rt; has_these_pairs(rt.alloc(), case), "row {row}");
     }
-    Ok(())
 }

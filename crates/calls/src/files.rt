@@ -3,8 +3,6 @@
 use image_format::{FormatFault, FormatRule, Parts, Row, read_parts, same, write_parts};
 use machine_desc::Mdes;
 use std::alloc::{AllocError, Global};
-use std::process::Abort;
-use std::test::Fail;
 
 /// The header, the row and the three words of a file of version 1 with one page; 509 words of 0 follow.
 const BEGIN: [u8; 69] = [
@@ -63,45 +61,53 @@ const READ: [Read; 3] = [
     (TWO, &[(15, 7), (12, 2)], &[], 0x0200_0007, 0),
 ];
 
-/// Compares the parts that are the same in all these files.
-fn has_code(rt: &impl Abort, parts: &Parts, busy_times: [u8; 9]) {
+/// The first words.
+const CODE: [u64; 4] = [
+    0x8008_8020_0000_0041,
+    0x901c_8001_0000_0000,
+    0xa02a_0000_0000_0000,
+    0,
+];
+
+/// Compares the description, the row and the words, which are the same in all these files but for the busy times.
+fn has_code(parts: &Parts, busy_times: [u8; 9]) -> bool {
     let description = Mdes::with_busy(2, [1; 5], [1, 3, 8, 2, 1, 1, 1, 1, 1], busy_times);
-    assert_eq!(rt; Some(parts.description), description);
-    assert_eq!(rt;
-        parts.rows.as_slice(),
-        [Row { entry: 0, count: 3 }].as_slice()
-    );
-    let words = [
-        0x8008_8020_0000_0041,
-        0x901c_8001_0000_0000,
-        0xa02a_0000_0000_0000,
-        0,
-    ];
-    assert_eq!(rt; parts.words.len(), 512);
-    for (word, found) in words.iter().zip(&parts.words) {
-        assert_eq!(rt; word, found);
-    }
+    Some(parts.description) == description
+        && parts.rows.as_slice() == [Row { entry: 0, count: 3 }].as_slice()
+        && parts.words.len() == 512
+        && &parts.words[..4] == CODE.as_slice()
 }
 
-fn is_read(rt: &impl Abort, alloc: Global, case: &Read) -> Result<(), Fail> {
-    let (version, changes, init, entry, memory) = *case;
+/// The file of a row.
+fn read_file(alloc: Global, case: &Read) -> Result<Vec<u8>, AllocError> {
+    let (version, changes, init, _, _) = *case;
     let mut bytes = file(alloc, version, changes)?;
     put_in(&mut bytes, 45, init)?;
-    let parts = read_parts(alloc, &bytes).expect(rt, "all rules are kept");
-    assert_eq!(rt; (parts.entry, parts.memory), (entry, memory));
-    assert_eq!(rt; parts.init.as_slice(), init);
-    has_code(rt, &parts, version.unwrap_or([1; 9]));
-    let written = write_parts(alloc, &parts)?;
-    assert!(rt; written == bytes);
-    Ok(())
+    Ok(bytes)
+}
+
+fn is_read(alloc: Global, case: &Read) -> bool {
+    let (version, _, init, entry, memory) = *case;
+    let Ok(bytes) = read_file(alloc, case) else {
+        return false;
+    };
+    let Ok(parts) = read_parts(alloc, &bytes) else {
+        return false;
+    };
+    let Ok(written) = write_parts(alloc, &parts) else {
+        return false;
+    };
+    (parts.entry, parts.memory) == (entry, memory)
+        && parts.init.as_slice() == init
+        && has_code(&parts, version.unwrap_or([1; 9]))
+        && written == bytes
 }
 
 #[test]
-fn parts_are_read_and_written(rt: HostRuntime) -> Result<(), Fail> {
-    for case in &READ {
-        is_read(&rt, rt.alloc(), case)?;
+fn parts_are_read_and_written(rt: HostRuntime) {
+    for (row, case) in READ.iter().enumerate() {
+        assert!(rt; is_read(rt.alloc(), case), "row {row}");
     }
-    Ok(())
 }
 
 /// A version and a change; whether the parts are those of the file of version 1 with a byte of memory.
@@ -120,24 +126,25 @@ const SAME: [(Version, (usize, u8), bool); 10] = [
 ];
 
 /// The parts of a file with a byte of memory that isn't given.
-fn with_memory(
-    rt: &impl Abort,
-    alloc: Global,
-    version: Version,
-    change: (usize, u8),
-) -> Result<Parts, Fail> {
-    let bytes = file(alloc, version, &[(19, 1), change])?;
-    Ok(read_parts(alloc, &bytes).expect(rt, "all rules are kept"))
+fn with_memory(alloc: Global, version: Version, change: (usize, u8)) -> Option<Parts> {
+    let bytes = file(alloc, version, &[(19, 1), change]).ok()?;
+    read_parts(alloc, &bytes).ok()
+}
+
+fn is_same(alloc: Global, parts: &Parts, case: &(Version, (usize, u8), bool)) -> bool {
+    let (version, change, is_same) = *case;
+    match with_memory(alloc, version, change) {
+        Some(other) => same(parts, &other) == is_same,
+        None => false,
+    }
 }
 
 #[test]
-fn parts_are_the_same(rt: HostRuntime) -> Result<(), Fail> {
-    let parts = with_memory(&rt, rt.alloc(), ONE, (19, 1))?;
-    for (version, change, is_same) in SAME {
-        let other = with_memory(&rt, rt.alloc(), version, change)?;
-        assert_eq!(rt; same(&parts, &other), is_same, "{change:?}");
+fn parts_are_the_same(rt: HostRuntime) {
+    let parts = with_memory(rt.alloc(), ONE, (19, 1)).expect(&rt, "no rule is broken");
+    for (row, case) in SAME.iter().enumerate() {
+        assert!(rt; is_same(rt.alloc(), &parts, case), "row {row}");
     }
-    Ok(())
 }
 
 /// A version and changes, with the first broken rule and its place.
@@ -176,14 +183,27 @@ const FAULTY: [Faulty; 29] = [
     (TWO, &[(40, 1), (38, 0)], FormatRule::Description, 14),
 ];
 
-fn is_refused(rt: &impl Abort, alloc: Global, bytes: &[u8], rule: FormatRule, place: u32) {
-    let fault = read_parts(alloc, bytes).err();
-    let length = bytes.len();
-    assert_eq!(rt;
-        fault,
-        Some(FormatFault::Broken(rule, place)),
-        "{length} bytes"
-    );
+/// Whether a rule is the first that a file breaks, and at which place.
+fn breaks_first(alloc: Global, bytes: &[u8], rule: FormatRule, place: u32) -> bool {
+    match read_parts(alloc, bytes) {
+        Ok(_) => false,
+        Err(fault) => fault == FormatFault::Broken(rule, place),
+    }
+}
+
+fn is_faulty(alloc: Global, case: &Faulty) -> bool {
+    let (version, changes, rule, place) = *case;
+    match file(alloc, version, changes) {
+        Ok(bytes) => breaks_first(alloc, &bytes, rule, place),
+        Err(_) => false,
+    }
+}
+
+#[test]
+fn faulty_files_are_refused(rt: HostRuntime) {
+    for (row, case) in FAULTY.iter().enumerate() {
+        assert!(rt; is_faulty(rt.alloc(), case), "row {row}");
+    }
 }
 
 /// A version and changes, and how many bytes of that file are kept, with the first broken rule. Its place is 0.
@@ -201,6 +221,21 @@ const CUT: [Cut; 9] = [
     (TWO, &[(7, 0)], 48, FormatRule::Limits),
 ];
 
+fn is_cut(alloc: Global, case: &Cut) -> bool {
+    let (version, changes, length, rule) = *case;
+    match file(alloc, version, changes) {
+        Ok(bytes) => length <= bytes.len() && breaks_first(alloc, &bytes[..length], rule, 0),
+        Err(_) => false,
+    }
+}
+
+#[test]
+fn cut_files_are_refused(rt: HostRuntime) {
+    for (row, case) in CUT.iter().enumerate() {
+        assert!(rt; is_cut(rt.alloc(), case), "row {row}");
+    }
+}
+
 /// A header with the greatest numbers in the four fields that have limits: 256 pages, 131,072 blocks, 1,048,576 bytes of
 /// memory, and as many initial bytes.
 const GREATEST: [u8; 39] = [
@@ -210,7 +245,9 @@ const GREATEST: [u8; 39] = [
 ];
 
 /// The header as it is, and with each of the four numbers one above the greatest; the first broken rule and its place.
-const ABOVE: [((usize, u8), FormatRule, u32); 5] = [
+type Above = ((usize, u8), FormatRule, u32);
+
+const ABOVE: [Above; 5] = [
     ((0, 0x54), FormatRule::Length, 0),
     ((7, 1), FormatRule::Limits, 0),
     ((11, 1), FormatRule::Limits, 1),
@@ -218,23 +255,16 @@ const ABOVE: [((usize, u8), FormatRule, u32); 5] = [
     ((23, 1), FormatRule::Limits, 3),
 ];
 
+fn is_above(alloc: Global, case: &Above) -> bool {
+    let (change_of_one, rule, place) = *case;
+    let mut bytes = GREATEST;
+    change(&mut bytes, &[change_of_one]);
+    breaks_first(alloc, &bytes, rule, place)
+}
+
 #[test]
-fn files_are_refused(rt: HostRuntime) -> Result<(), Fail> {
-    let alloc = rt.alloc();
-    for (version, changes, rule, place) in FAULTY {
-        let bytes = file(alloc, version, changes)?;
-        is_refused(&rt, alloc, &bytes, rule, place);
+fn great_headers_are_refused(rt: HostRuntime) {
+    for (row, case) in ABOVE.iter().enumerate() {
+        assert!(rt; is_above(rt.alloc(), case), "row {row}");
     }
-    for (version, changes, length, rule) in CUT {
-        let mut bytes = file(alloc, version, changes)?;
-        bytes.truncate(length);
-        assert_eq!(rt; bytes.len(), length);
-        is_refused(&rt, alloc, &bytes, rule, 0);
-    }
-    for (change_of_one, rule, place) in ABOVE {
-        let mut bytes = GREATEST.to_vec(alloc)?;
-        change(&mut bytes, &[change_of_one]);
-        is_refused(&rt, alloc, &bytes, rule, place);
-    }
-    Ok(())
 }

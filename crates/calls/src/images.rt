@@ -1,17 +1,16 @@
 // Accepted images: their tables, pages and programs, and which have the same bytes. The words were put together from the
 // tables of the format, apart from the code, and what is expected was worked out by hand.
-ghost use Rattle.std.specs.Prelude.{IfOk};
+ghost use Rattle.std.specs.Prelude.{IfSome};
 ghost use Rattle.image_format.specs.Image.{IsWithinLimits};
 ghost use Rattle.image_format.specs.Parts.{image_of};
 
 use super::descriptions::{Numbers, SHORT, T1, T2, WIDER, described};
 use image_check::{Accepted, check, program};
 use image_format::{Parts, Row, write_parts};
+use latency_deps::GoodBlock;
 use machine_desc::Generation;
 use operation::Op;
 use std::alloc::{AllocError, Global};
-use std::process::Abort;
-use std::test::Fail;
 use timed_meaning::{Program, TimedBlock};
 
 /// `addi r1, r0, 65`.
@@ -66,18 +65,20 @@ fn words(alloc: Global, pages: u16, placed: &[(u16, &[u64])]) -> Result<Vec<u64>
 }
 
 /// The parts of an image of one page or two, with eight bytes of memory.
-fn parts(rt: &impl Abort, alloc: Global, pages: u16, image: &Image) -> Result<Parts, AllocError>
-    ensures { IfOk result (λ p. IsWithinLimits (image_of p)) }
+fn parts(alloc: Global, pages: u16, image: &Image) -> Option<Parts>
+    ensures { IfSome result (λ p. IsWithinLimits (image_of p)) }
 {
     let (numbers, entry, rows, placed) = *image;
-    let rows = table(alloc, rows)?;
-    let words = words(alloc, pages, placed)?;
-    let init = vec![in alloc; 7, 9]?;
-    assert!(rt; 1 <= rows.len() && rows.len() <= 512);
-    assert!(rt; words.len() == 512 || words.len() == 1024);
-    assert!(rt; init.len() == 2);
-    Ok(Parts {
-        description: described(rt, numbers),
+    let description = described(&numbers)?;
+    let rows = table(alloc, rows).ok()?;
+    let words = words(alloc, pages, placed).ok()?;
+    let init = INIT.to_vec(alloc).ok()?;
+    let is_one_or_two = words.len() == 512 || words.len() == 1024;
+    if rows.is_empty() || rows.len() > 512 || !is_one_or_two || init.len() != 2 {
+        return None;
+    }
+    Some(Parts {
+        description,
         entry,
         rows,
         memory: 8,
@@ -86,35 +87,25 @@ fn parts(rt: &impl Abort, alloc: Global, pages: u16, image: &Image) -> Result<Pa
     })
 }
 
-/// The file of an image of so many pages, with some bytes changed.
-fn file(
-    rt: &impl Abort,
-    alloc: Global,
-    pages: u16,
-    image: &Image,
-    changes: &[(usize, u8)],
-) -> Result<Vec<u8>, Fail> {
-    let parts = parts(rt, alloc, pages, image)?;
-    let mut bytes = write_parts(alloc, &parts)?;
+/// Gives some bytes other values.
+fn change(bytes: &mut [u8], changes: &[(usize, u8)]) {
     for (offset, value) in changes {
         if let Some(place) = bytes.get_mut(*offset) {
             *place = *value;
         }
     }
-    Ok(bytes)
 }
 
-/// The image, which is accepted.
-fn accepted(
-    rt: &impl Abort,
-    alloc: Global,
-    pages: u16,
-    image: &Image,
-    changes: &[(usize, u8)],
-) -> Result<Accepted, Fail> {
-    let bytes = file(rt, alloc, pages, image, changes)?;
-    Ok(check(alloc, &bytes).expect(rt, "no rule is broken"))
+/// The image of so many pages, with some bytes changed, where it is accepted.
+fn accepted(alloc: Global, pages: u16, image: &Image, changes: &[(usize, u8)]) -> Option<Accepted> {
+    let parts = parts(alloc, pages, image)?;
+    let mut bytes = write_parts(alloc, &parts).ok()?;
+    change(&mut bytes, changes);
+    check(alloc, &bytes).ok()
 }
+
+/// The initial bytes of each image.
+const INIT: [u8; 2] = [7, 9];
 
 const ONE_ROW: Image = (T1, 0, &[(0, 3)], &[(0, &[ADD, PUT, HALT])]);
 
@@ -134,8 +125,10 @@ const TWO_PAGES: Image = (
 /// The entry of a block, the next entry, the issue cycle and the latency of each operation, and the end.
 type Timed = (u32, Option<u32>, &'static [(u32, u8)], u32);
 
-/// Images of so many pages, and their programs.
-const PROGRAMS: [(u16, Image, &[Timed]); 6] = [
+/// An image of so many pages, and the blocks of its program.
+type Meant = (u16, Image, &'static [Timed]);
+
+const PROGRAMS: [Meant; 6] = [
     (1, ONE_ROW, &[(0, None, &[(0, 1), (1, 1), (2, 1)], 3)]),
     (
         1,
@@ -195,76 +188,104 @@ const PROGRAMS: [(u16, Image, &[Timed]); 6] = [
     ),
 ];
 
-fn has_times(rt: &impl Abort, block: &TimedBlock, case: &Timed) {
-    let (entry, next, times, end) = *case;
-    assert_eq!(rt; (block.entry, block.next, block.end), (entry, next, end));
-    assert_eq!(rt; block.ops.len(), times.len());
-    for (op, time) in block.ops.iter().zip(times) {
-        assert_eq!(rt; (op.at, op.latency), *time);
+fn has_times(block: &TimedBlock, times: &[(u32, u8)]) -> bool {
+    for (op, (at, latency)) in block.ops.iter().zip(times) {
+        if op.at != *at || op.latency != *latency {
+            return false;
+        }
     }
+    block.ops.len() == times.len()
 }
 
-/// Compares the program of an image with eight bytes of memory.
-fn has_program(rt: &impl Abort, program: &Program, entry: u32, blocks: &[Timed]) {
-    assert_eq!(rt; (program.entry, program.memory), (entry, 8));
-    assert_eq!(rt; program.init.as_slice(), [7, 9].as_slice());
-    assert_eq!(rt; program.blocks.len(), blocks.len());
-    for (block, case) in program.blocks.iter().zip(blocks) {
-        has_times(rt, block, case);
+fn is_block(block: &TimedBlock, case: &Timed) -> bool {
+    let (entry, next, times, end) = *case;
+    block.entry == entry && block.next == next && block.end == end && has_times(block, times)
+}
+
+fn are_blocks(blocks: &[TimedBlock], cases: &[Timed]) -> bool {
+    for (block, case) in blocks.iter().zip(cases) {
+        if !is_block(block, case) {
+            return false;
+        }
     }
+    blocks.len() == cases.len()
+}
+
+/// The program of an image, where it is accepted.
+fn meant(alloc: Global, pages: u16, image: &Image) -> Option<Program> {
+    program(alloc, &accepted(alloc, pages, image, &[])?).ok()
+}
+
+fn has_program(alloc: Global, case: &Meant) -> bool {
+    let (pages, image, blocks) = *case;
+    let Some(program) = meant(alloc, pages, &image) else {
+        return false;
+    };
+    (program.entry, program.memory) == (image.1, 8)
+        && program.init.as_slice() == INIT.as_slice()
+        && are_blocks(&program.blocks, blocks)
 }
 
 #[test]
-fn images_and_their_programs(rt: HostRuntime) -> Result<(), Fail> {
-    for (pages, image, blocks) in &PROGRAMS {
-        let found = accepted(&rt, rt.alloc(), *pages, image, &[])?;
-        has_program(&rt, &program(rt.alloc(), &found)?, image.1, blocks);
+fn images_and_their_programs(rt: HostRuntime) {
+    for (row, case) in PROGRAMS.iter().enumerate() {
+        assert!(rt; has_program(rt.alloc(), case), "row {row}");
     }
-    Ok(())
 }
 
 /// The page of a block, its number and its place there, its words, and how many cycles it has.
-const PLACED: [(u16, u16, u16, &[u64], u32); 3] = [
+type Placed = (u16, u16, u16, &'static [u64], u32);
+
+const PLACED: [Placed; 3] = [
     (0, 0, 0, &[ADD, PUT_AND_WAIT], 5),
     (0, 1, 3, &[HALT], 1),
     (1, 0, 0, &[PREPARE, ADD, BRANCH], 3),
 ];
 
-fn stands_so(rt: &impl Abort, image: &Accepted, case: &(u16, u16, u16, &'static [u64], u32)) {
+fn has_words(block: &GoodBlock, words: &[u64]) -> bool {
+    for (i, word) in (0..512).zip(words) {
+        if i >= block.count() || block.word(i) != *word {
+            return false;
+        }
+    }
+    block.count() as usize == words.len()
+}
+
+fn is_placed(image: &Accepted, case: &Placed) -> bool {
     let (n, k, place, words, end) = *case;
-    assert!(rt; (n as usize) < image.parts().words.len() / 512);
+    if n as usize >= image.parts().words.len() / 512 || k >= image.page(n).blocks() {
+        return false;
+    }
     let page = image.page(n);
-    assert!(rt; k < page.blocks());
-    assert_eq!(rt; page.place(k), place);
-    let block = page.block(k);
-    assert_eq!(rt; block.count() as usize, words.len());
-    assert_eq!(rt; block.end(), end);
-    for i in 0..block.count() {
-        assert_eq!(rt; block.word(i), words[i as usize]);
+    page.place(k) == place && page.block(k).end() == end && has_words(page.block(k), words)
+}
+
+#[test]
+fn table_and_pages_of_an_image(rt: HostRuntime) {
+    let image = accepted(rt.alloc(), 2, &TWO_PAGES, &[]).expect(&rt, "no rule is broken");
+    assert!(rt; image.parts().entry == 3);
+    assert!(rt; image.parts().description.width() == 2);
+    assert!(rt; image.parts().words.len() == 1024);
+    assert!(rt; image.table().rows() == 3);
+    assert!(rt; image.table().block_of(512) == Some(2));
+    assert!(rt; (image.page(0).blocks(), image.page(1).blocks()) == (2, 1));
+    for (row, case) in PLACED.iter().enumerate() {
+        assert!(rt; is_placed(&image, case), "row {row}");
     }
 }
 
 #[test]
-fn table_and_pages_of_an_image(rt: HostRuntime) -> Result<(), Fail> {
-    let image = accepted(&rt, rt.alloc(), 2, &TWO_PAGES, &[])?;
-    assert_eq!(rt; image.parts().entry, 3);
-    assert_eq!(rt; image.parts().description.width(), 2);
-    assert_eq!(rt; image.parts().words.len(), 1024);
-    assert_eq!(rt; image.table().rows(), 3);
-    assert_eq!(rt; image.table().block_of(512), Some(2));
-    assert_eq!(rt; (image.page(0).blocks(), image.page(1).blocks()), (2, 1));
-    for case in &PLACED {
-        stands_so(&rt, &image, case);
-    }
-    let program = program(rt.alloc(), &image)?;
-    assert_eq!(rt; program.blocks.len(), 3);
-    let op = program.blocks[2].ops.get(2).map(|timed| timed.guarded.op);
-    assert_eq!(rt; op, Some(Op::Bru(1)));
-    Ok(())
+fn the_operation_of_a_program(rt: HostRuntime) {
+    let program = meant(rt.alloc(), 2, &TWO_PAGES).expect(&rt, "no rule is broken");
+    assert!(rt; program.blocks.len() == 3);
+    let timed = program.blocks[2].ops.get(2).expect(&rt, "three operations");
+    assert!(rt; timed.guarded.op == Op::Bru(1));
 }
 
 /// Two images, changes of the second one's bytes, and whether they have the same bytes.
-const COMPARED: [(Image, Image, &[(usize, u8)], bool); 7] = [
+type Compared = (Image, Image, &'static [(usize, u8)], bool);
+
+const COMPARED: [Compared; 7] = [
     (TWO_ROWS, TWO_ROWS, &[], true),
     (
         TWO_ROWS,
@@ -290,15 +311,22 @@ const COMPARED: [(Image, Image, &[(usize, u8)], bool); 7] = [
     (ONE_ROW, ONE_ROW, &[(46, 1)], false),
 ];
 
+fn has_same_bytes(alloc: Global, case: &Compared) -> bool {
+    let (first, second, changes, is_same) = *case;
+    let Some(first) = accepted(alloc, 1, &first, &[]) else {
+        return false;
+    };
+    let Some(second) = accepted(alloc, 1, &second, changes) else {
+        return false;
+    };
+    first.same_bytes(&first)
+        && first.same_bytes(&second) == is_same
+        && second.same_bytes(&first) == is_same
+}
+
 #[test]
-fn images_with_the_same_bytes(rt: HostRuntime) -> Result<(), Fail> {
-    let alloc = rt.alloc();
-    for (first, second, changes, is_same) in &COMPARED {
-        let first = accepted(&rt, alloc, 1, first, &[])?;
-        let second = accepted(&rt, alloc, 1, second, changes)?;
-        assert!(rt; first.same_bytes(&first));
-        assert_eq!(rt; first.same_bytes(&second), *is_same);
-        assert_eq!(rt; second.same_bytes(&first), *is_same);
+fn images_with_the_same_bytes(rt: HostRuntime) {
+    for (row, case) in COMPARED.iter().enumerate() {
+        assert!(rt; has_same_bytes(rt.alloc(), case), "row {row}");
     }
-    Ok(())
 }

@@ -1,7 +1,8 @@
 // Tests of the calls of the lower crates that no command shows.
 //
-// It stands on each crate below the commands, and promises nothing: it has tests alone. Each module is about one subject, and its tests
-// are tables: rows of worked values, and a loop that compares them with what the calls answer.
+// It stands on crates below the commands, and promises nothing: it has tests alone. Each module is about one subject, and its
+// tests are tables of worked values. A row is compared by one small function that answers whether all is as the row says, and
+// the test, a loop over the table, tells the first row of which it isn't by its number, counted from 0.
 #![tactic(auto)]
 
 #[cfg(test)]

@@ -7,7 +7,6 @@ use operation::numbers::{bytes, extend};
 use operation::{
     Action, AluKind, Dest, Effect, Op, Operands, Size, Test, Trap, TrapKind, evaluate,
 };
-use std::process::Abort;
 
 /// A true guard, and nothing else.
 const NONE: Operands = Operands {
@@ -24,14 +23,18 @@ fn trapped(kind: TrapKind, detail: u32) -> Effect {
     Effect::Trapped(Trap { kind, detail })
 }
 
-/// Compares what an operation under a guard does with these values.
-fn does(rt: &impl Abort, guard: u8, op: Op, values: &Operands, want: Effect) {
-    let guarded = guarded(rt, guard, op);
-    assert_eq!(rt; evaluate(&guarded, values), want, "{op:?} {values:?}");
+/// Whether an operation under a guard does this with these values.
+fn does(guard: u8, op: Op, values: &Operands, want: Effect) -> bool {
+    let Some(guarded) = guarded(guard, op) else {
+        return false;
+    };
+    evaluate(&guarded, values) == want
 }
 
 /// The first operand and the second, and the result.
-const RESULTS: [(AluKind, u32, u32, u32); 17] = [
+type Computed = (AluKind, u32, u32, u32);
+
+const RESULTS: [Computed; 17] = [
     (AluKind::Add, 0xFFFF_FFFF, 2, 1),
     (AluKind::Sub, 1, 3, 0xFFFF_FFFE),
     (AluKind::And, 0xF0F0_F0F0, 0xFF00_FF00, 0xF000_F000),
@@ -51,23 +54,30 @@ const RESULTS: [(AluKind, u32, u32, u32); 17] = [
     (AluKind::Max, 0xFFFF_FFFF, 1, 1),
 ];
 
-/// Each with a register and with an immediate as its second operand.
+/// With a register and with an immediate as the second operand.
+fn computes(case: &Computed) -> bool {
+    let (kind, first, second, want) = *case;
+    let immediate = Operands { first, ..NONE };
+    let register = Operands {
+        second,
+        ..immediate
+    };
+    let want = Effect::General(3, want);
+    does(0, Op::Alu(kind, 3, 1, 2), &register, want)
+        && does(0, Op::AluImm(kind, 3, 1, second), &immediate, want)
+}
+
 #[test]
 fn results_of_registers(rt: HostRuntime) {
-    for (kind, first, second, want) in RESULTS {
-        let immediate = Operands { first, ..NONE };
-        let register = Operands {
-            second,
-            ..immediate
-        };
-        let want = Effect::General(3, want);
-        does(&rt, 0, Op::Alu(kind, 3, 1, 2), &register, want);
-        does(&rt, 0, Op::AluImm(kind, 3, 1, second), &immediate, want);
+    for (row, case) in RESULTS.iter().enumerate() {
+        assert!(rt; computes(case), "row {row}");
     }
 }
 
 /// Dividend and divisor; product, quotient and remainder.
-const QUOTIENTS: [(i32, i32, i32, i32, i32); 8] = [
+type Divided = (i32, i32, i32, i32, i32);
+
+const QUOTIENTS: [Divided; 8] = [
     (7, 2, 14, 3, 1),
     (-7, 2, -14, -3, -1),
     (7, -2, -14, -3, 1),
@@ -78,27 +88,37 @@ const QUOTIENTS: [(i32, i32, i32, i32, i32); 8] = [
     (0x10001, 0x10001, 0x20001, 1, 0),
 ];
 
+fn result(n: i32) -> Effect {
+    Effect::General(3, n.cast_unsigned())
+}
+
+fn divides(case: &Divided) -> bool {
+    let (first, second, product, quotient, remainder) = *case;
+    let values = Operands {
+        first: first.cast_unsigned(),
+        second: second.cast_unsigned(),
+        ..NONE
+    };
+    does(0, Op::Mul(3, 1, 2), &values, result(product))
+        && does(0, Op::Div(3, 1, 2), &values, result(quotient))
+        && does(0, Op::Rem(3, 1, 2), &values, result(remainder))
+}
+
 #[test]
 fn products_and_quotients(rt: HostRuntime) {
-    let result = |n: i32| Effect::General(3, n.cast_unsigned());
-    for (first, second, product, quotient, remainder) in QUOTIENTS {
-        let values = Operands {
-            first: first.cast_unsigned(),
-            second: second.cast_unsigned(),
-            ..NONE
-        };
-        does(&rt, 0, Op::Mul(3, 1, 2), &values, result(product));
-        does(&rt, 0, Op::Div(3, 1, 2), &values, result(quotient));
-        does(&rt, 0, Op::Rem(3, 1, 2), &values, result(remainder));
+    for (row, case) in QUOTIENTS.iter().enumerate() {
+        assert!(rt; divides(case), "row {row}");
     }
     let values = Operands { first: 9, ..NONE };
     let by_zero = trapped(TrapKind::DivideByZero, 9);
-    does(&rt, 0, Op::Div(3, 1, 2), &values, by_zero);
-    does(&rt, 0, Op::Rem(3, 1, 2), &values, by_zero);
+    assert!(rt; does(0, Op::Div(3, 1, 2), &values, by_zero));
+    assert!(rt; does(0, Op::Rem(3, 1, 2), &values, by_zero));
 }
 
 /// The first operand, the second one, and the same as an immediate; whether the test holds.
-const TESTS: [(Test, u32, u32, i16, bool); 15] = [
+type Tested = (Test, u32, u32, i16, bool);
+
+const TESTS: [Tested; 15] = [
     (Test::Ceq, 5, 5, 5, true),
     (Test::Ceq, 5, 6, 6, false),
     (Test::Ceq, 0xFFFF_8000, 0xFFFF_8000, -32768, true),
@@ -126,63 +146,88 @@ const UC: Dest = Dest {
     action: Action::Uc,
 };
 
+fn tests(case: &Tested) -> bool {
+    let (test, first, second, imm, holds) = *case;
+    let immediate = Operands { first, ..NONE };
+    let register = Operands {
+        second,
+        ..immediate
+    };
+    let want = Effect::Predicates(Some(holds), Some(!holds));
+    does(0, Op::Cmp(test, UN, UC, 1, 2), &register, want)
+        && does(0, Op::CmpImm(test, UN, UC, 1, imm), &immediate, want)
+}
+
 #[test]
 fn tests_of_compares(rt: HostRuntime) {
-    for (test, first, second, imm, c) in TESTS {
-        let immediate = Operands { first, ..NONE };
-        let register = Operands {
-            second,
-            ..immediate
-        };
-        let want = Effect::Predicates(Some(c), Some(!c));
-        does(&rt, 0, Op::Cmp(test, UN, UC, 1, 2), &register, want);
-        does(&rt, 0, Op::CmpImm(test, UN, UC, 1, imm), &immediate, want);
+    for (row, case) in TESTS.iter().enumerate() {
+        assert!(rt; tests(case), "row {row}");
     }
 }
 
 /// What an action writes under a true guard where the test holds and where it doesn't, and under a false guard where it
 /// holds and where it doesn't.
-const ACTIONS: [(Action, [Option<bool>; 4]); 6] = [
+type Acted = (
+    Action,
+    Option<bool>,
+    Option<bool>,
+    Option<bool>,
+    Option<bool>,
+);
+
+const ACTIONS: [Acted; 6] = [
     (
         Action::Un,
-        [Some(true), Some(false), Some(false), Some(false)],
+        Some(true),
+        Some(false),
+        Some(false),
+        Some(false),
     ),
     (
         Action::Uc,
-        [Some(false), Some(true), Some(false), Some(false)],
+        Some(false),
+        Some(true),
+        Some(false),
+        Some(false),
     ),
-    (Action::On, [Some(true), None, None, None]),
-    (Action::Oc, [None, Some(true), None, None]),
-    (Action::An, [None, Some(false), None, None]),
-    (Action::Ac, [Some(false), None, None, None]),
+    (Action::On, Some(true), None, None, None),
+    (Action::Oc, None, Some(true), None, None),
+    (Action::An, None, Some(false), None, None),
+    (Action::Ac, Some(false), None, None, None),
 ];
 
-/// The guard, and an operand that is 0 or isn't.
-const GUARDS: [(bool, u32); 4] = [(true, 0), (true, 1), (false, 0), (false, 1)];
+/// Compares what an action writes to both destinations where the first operand is compared with 0.
+fn writes(action: Action, guard: bool, first: u32, want: Option<bool>) -> bool {
+    let a = Dest { p: 1, action };
+    let b = Dest { p: 0, action };
+    let values = Operands {
+        guard,
+        first,
+        ..NONE
+    };
+    let op = Op::CmpImm(Test::Ceq, a, b, 1, 0);
+    does(3, op, &values, Effect::Predicates(want, want))
+}
+
+fn acts(case: &Acted) -> bool {
+    let (action, holds, fails, idle_holds, idle_fails) = *case;
+    writes(action, true, 0, holds)
+        && writes(action, true, 1, fails)
+        && writes(action, false, 0, idle_holds)
+        && writes(action, false, 1, idle_fails)
+}
 
 #[test]
 fn actions_of_compares(rt: HostRuntime) {
-    for (action, written) in ACTIONS {
-        let op = Op::CmpImm(
-            Test::Ceq,
-            Dest { p: 1, action },
-            Dest { p: 0, action },
-            1,
-            0,
-        );
-        for ((guard, first), want) in GUARDS.iter().copied().zip(written) {
-            let values = Operands {
-                guard,
-                first,
-                ..NONE
-            };
-            does(&rt, 3, op, &values, Effect::Predicates(want, want));
-        }
+    for (row, case) in ACTIONS.iter().enumerate() {
+        assert!(rt; acts(case), "row {row}");
     }
 }
 
 /// Size, base, displacement and size of the memory; the address, and the trap if there is one.
-const ACCESSES: [(Size, u32, u32, u32, u32, Option<TrapKind>); 13] = [
+type Accessed = (Size, u32, u32, u32, u32, Option<TrapKind>);
+
+const ACCESSES: [Accessed; 13] = [
     (Size::Word, 8, 0xFFFF_FFFC, 8, 4, None),
     (Size::Word, 8, 0, 8, 8, Some(TrapKind::OutOfRange)),
     (Size::Word, 5, 0, 8, 5, Some(TrapKind::Misaligned)),
@@ -223,8 +268,28 @@ fn loaded(size: Size, address: u32, trap: Option<TrapKind>) -> Effect {
     }
 }
 
+fn accesses(case: &Accessed) -> bool {
+    let (size, first, imm, memory, address, trap) = *case;
+    let values = Operands {
+        first,
+        memory,
+        ..NONE
+    };
+    let want = loaded(size, address, trap);
+    does(0, Op::Load(size, 3, 1, imm), &values, want)
+}
+
+#[test]
+fn accesses_of_loads(rt: HostRuntime) {
+    for (row, case) in ACCESSES.iter().enumerate() {
+        assert!(rt; accesses(case), "row {row}");
+    }
+}
+
 /// How many bytes are moved, a number in memory, and what a load of it leaves in a register.
-const NUMBERS: [(Size, u32, u32, u32); 5] = [
+type Moved = (Size, u32, u32, u32);
+
+const NUMBERS: [Moved; 5] = [
     (Size::Word, 4, 0x8000_0000, 0x8000_0000),
     (Size::Half, 2, 0x8001, 0xFFFF_8001),
     (Size::HalfU, 2, 0x8001, 0x8001),
@@ -233,7 +298,7 @@ const NUMBERS: [(Size, u32, u32, u32); 5] = [
 ];
 
 /// Whether a number has no more bytes than a load moves.
-fn is_moved(size: Size, n: u32) -> bool
+fn is_in_bytes(size: Size, n: u32) -> bool
     ensures { IsTrue result → n < 256 ^ bytes_of size }
 {
     match size {
@@ -243,21 +308,15 @@ fn is_moved(size: Size, n: u32) -> bool
     }
 }
 
+fn moves(case: &Moved) -> bool {
+    let (size, count, n, want) = *case;
+    bytes(size) == count && is_in_bytes(size, n) && extend(size, n) == want
+}
+
 #[test]
-fn accesses_and_numbers_of_loads(rt: HostRuntime) {
-    for (size, first, imm, memory, address, trap) in ACCESSES {
-        let values = Operands {
-            first,
-            memory,
-            ..NONE
-        };
-        let want = loaded(size, address, trap);
-        does(&rt, 0, Op::Load(size, 3, 1, imm), &values, want);
-    }
-    for (size, count, n, want) in NUMBERS {
-        assert_eq!(rt; bytes(size), count, "{size:?}");
-        assert!(rt; is_moved(size, n));
-        assert_eq!(rt; extend(size, n), want, "{size:?}");
+fn numbers_of_loads(rt: HostRuntime) {
+    for (row, case) in NUMBERS.iter().enumerate() {
+        assert!(rt; moves(case), "row {row}");
     }
 }
 
@@ -378,7 +437,7 @@ const EFFECTS: [(Op, Operands, Effect); 23] = [
 
 #[test]
 fn effects_of_other_operations(rt: HostRuntime) {
-    for (op, values, want) in EFFECTS {
-        does(&rt, 1, op, &values, want);
+    for (row, (op, values, want)) in EFFECTS.iter().enumerate() {
+        assert!(rt; does(1, *op, values, *want), "row {row}");
     }
 }

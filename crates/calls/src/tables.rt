@@ -1,8 +1,7 @@
 // Block tables: which are refused, each at its first broken rule and least row, the look-ups of one that isn't, and the
 // words between blocks.
 use block_table::{Table, TableFault, TableRule};
-use std::process::Abort;
-use std::test::Fail;
+use std::alloc::Global;
 
 /// Rows, the number of pages and the program's entry, with the first broken rule and its least row.
 type Refused = (&'static [(u32, u16)], u16, u32, TableRule, u32);
@@ -22,23 +21,29 @@ const REFUSED: [Refused; 12] = [
     (&[], 1, 0, TableRule::Entry, 0),
 ];
 
+fn is_refused(alloc: Global, case: &Refused) -> bool {
+    let (rows, pages, entry, rule, row) = *case;
+    Table::new(alloc, rows, pages, entry).err() == Some(TableFault::Broken(rule, row))
+}
+
 #[test]
 fn tables_are_refused(rt: HostRuntime) {
-    for (rows, pages, entry, rule, row) in REFUSED {
-        let fault = Table::new(rt.alloc(), rows, pages, entry).err();
-        assert_eq!(rt; fault, Some(TableFault::Broken(rule, row)), "{rows:?}");
+    for (row, case) in REFUSED.iter().enumerate() {
+        assert!(rt; is_refused(rt.alloc(), case), "row {row}");
     }
 }
 
 /// The rows of a table of four pages.
 const ROWS: [(u32, u16); 4] = [(0, 3), (510, 2), (512, 512), (2000, 1)];
 
-/// A row with its page, and the entry of the row behind it.
-const PLACES: [(u32, u16, Option<u32>); 4] = [
-    (0, 0, Some(510)),
-    (1, 0, Some(512)),
-    (2, 1, Some(2000)),
-    (3, 3, None),
+/// The number of a row, the row, its page, and the entry of the row behind it.
+type Placed = (u32, (u32, u16), u16, Option<u32>);
+
+const PLACED: [Placed; 4] = [
+    (0, (0, 3), 0, Some(510)),
+    (1, (510, 2), 0, Some(512)),
+    (2, (512, 512), 1, Some(2000)),
+    (3, (2000, 1), 3, None),
 ];
 
 /// An address, and the row whose entry it is.
@@ -49,27 +54,24 @@ const ENTRIES: [(u32, Option<u32>); 4] = [
     (4_294_967_295, None),
 ];
 
-fn stands_so(rt: &impl Abort, table: &Table, place: (u32, u16, Option<u32>), row: (u32, u16)) {
-    let (block, page, next) = place;
-    assert!(rt; block < table.rows());
-    assert_eq!(rt; (table.entry(block), table.count(block)), row);
-    assert_eq!(rt; table.page(block), page);
-    assert_eq!(rt; table.next(block), next);
+fn is_placed(table: &Table, case: &Placed) -> bool {
+    let (block, row, page, next) = *case;
+    block < table.rows()
+        && (table.entry(block), table.count(block)) == row
+        && table.page(block) == page
+        && table.next(block) == next
 }
 
 #[test]
-fn rows_are_looked_up(rt: HostRuntime) -> Result<(), Fail> {
-    let Ok(table) = Table::new(rt.alloc(), &ROWS, 4, 512) else {
-        return Err(Fail::from("refused"));
-    };
-    assert_eq!(rt; table.rows(), 4);
-    for (place, row) in PLACES.iter().zip(ROWS) {
-        stands_so(&rt, &table, *place, row);
+fn rows_are_looked_up(rt: HostRuntime) {
+    let table = Table::new(rt.alloc(), &ROWS, 4, 512).expect(&rt, "no rule is broken");
+    assert!(rt; table.rows() == 4);
+    for (row, case) in PLACED.iter().enumerate() {
+        assert!(rt; is_placed(&table, case), "row {row}");
     }
-    for (address, block) in ENTRIES {
-        assert_eq!(rt; table.block_of(address), block, "{address}");
+    for (row, (address, block)) in ENTRIES.iter().enumerate() {
+        assert!(rt; table.block_of(*address) == *block, "row {row}");
     }
-    Ok(())
 }
 
 /// Words of a page with blocks at 1 and 2, at 3, and at 6 and 7, and the first word in no block that isn't 0.
@@ -85,14 +87,17 @@ const PADDED: [(&[u64], Option<u32>); 9] = [
     (&[], None),
 ];
 
+fn is_padded(table: &Table, words: &[u64], first: Option<u32>) -> bool {
+    words.len() <= 512 && table.unpadded(words) == first
+}
+
 #[test]
-fn words_between_blocks_are_zero(rt: HostRuntime) -> Result<(), Fail> {
-    let Ok(table) = Table::new(rt.alloc(), &[(1, 2), (3, 1), (6, 2)], 1, 1) else {
-        return Err(Fail::from("refused"));
-    };
-    for (words, first) in PADDED {
-        assert!(rt; words.len() <= 512);
-        assert_eq!(rt; table.unpadded(words), first, "{words:?}");
+fn words_between_blocks_are_zero(rt: HostRuntime) {
+    let table = Table::new(rt.alloc(), &[(1, 2), (3, 1), (6, 2)], 1, 1).expect(
+        &rt,
+        "no rule is broken",
+    );
+    for (row, (words, first)) in PADDED.iter().enumerate() {
+        assert!(rt; is_padded(&table, words, *first), "row {row}");
     }
-    Ok(())
 }

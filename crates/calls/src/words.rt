@@ -4,9 +4,8 @@ use super::places::guarded;
 use list_encoding::fields::{operation, operation_fields};
 use list_encoding::opcodes::{mnemonic_of, opcode};
 use list_encoding::{Coded, decode, encode, is_head, pause, times};
-use operation::{Action, AluKind, Dest, Op, Size, Test};
-use std::process::Abort;
-use std::test::Fail;
+use operation::{Action, AluKind, Dest, Guarded, Op, Size, Test};
+use std::alloc::Global;
 
 /// The head mark, the unit, the pause and the guard.
 type Place = (bool, u8, u8, u8);
@@ -261,39 +260,41 @@ const IMMEDIATE_COMPARES: [(u64, Place, Compare<i16>); 6] = [
     ),
 ];
 
-/// Compares the fields of an operation with those of its word, and reads them again.
-fn has_fields(rt: &impl Abort, word: u64, c: &Coded) {
-    let op = c.guarded.op;
-    let fields = operation_fields(&op);
-    let number = opcode(fields.mnemonic);
-    assert_eq!(rt; number as u64, word >> 47 & 0x7F, "{op:?}");
-    assert_eq!(rt; fields.d as u64, word >> 37 & 0x1F, "{op:?}");
-    assert_eq!(rt; fields.s as u64, word >> 32 & 0x1F, "{op:?}");
-    assert_eq!(rt; fields.tail as u64, word & 0xFFFF_FFFF, "{op:?}");
-    assert_eq!(rt; mnemonic_of(number), Some(fields.mnemonic), "{op:?}");
-    assert_eq!(rt; operation(fields), Some(op), "{op:?}");
-}
-
-/// The reading of an operation at a place.
-fn coded(rt: &impl Abort, place: Place, op: Op) -> Coded {
-    let (head, unit, pause, guard) = place;
-    assert!(rt; unit < 16);
-    assert!(rt; pause < 32);
-    Coded {
+/// The reading of an operation at a place, where all numbers are in range.
+fn coded(place: &Place, op: Op) -> Option<Coded> {
+    let (head, unit, pause, guard) = *place;
+    if unit >= 16 || pause >= 32 {
+        return None;
+    }
+    Some(Coded {
         head,
         unit,
         pause,
-        guarded: guarded(rt, guard, op),
-    }
+        guarded: guarded(guard, op)?,
+    })
+}
+
+/// Compares the fields of an operation with those of its word, and reads them again.
+fn has_fields(word: u64, guarded: &Guarded) -> bool {
+    let fields = operation_fields(&guarded.op);
+    let number = opcode(fields.mnemonic);
+    number as u64 == word >> 47 & 0x7F
+        && fields.d as u64 == word >> 37 & 0x1F
+        && fields.s as u64 == word >> 32 & 0x1F
+        && fields.tail as u64 == word & 0xFFFF_FFFF
+        && mnemonic_of(number) == Some(fields.mnemonic)
+        && operation(fields) == Some(guarded.op)
 }
 
 /// Compares the word of an operation at a place, and what is read in that word.
-fn is_word_of(rt: &impl Abort, word: u64, place: Place, op: Op) {
-    let c = coded(rt, place, op);
-    assert_eq!(rt; encode(&c), word, "{op:?}");
-    assert_eq!(rt; decode(word), Some(c), "{op:?}");
-    assert_eq!(rt; (is_head(word), pause(word)), (c.head, c.pause), "{op:?}");
-    has_fields(rt, word, &c);
+fn is_word_of(word: u64, place: &Place, op: Op) -> bool {
+    let Some(c) = coded(place, op) else {
+        return false;
+    };
+    encode(&c) == word
+        && decode(word) == Some(c)
+        && (is_head(word), pause(word)) == (c.head, c.pause)
+        && has_fields(word, &c.guarded)
 }
 
 /// The destination of an action.
@@ -301,16 +302,29 @@ fn dest((p, action): (u8, Action)) -> Dest {
     Dest { p, action }
 }
 
+fn is_word_of_compare(word: u64, place: &Place, compare: &Compare<u8>) -> bool {
+    let (test, a, b, s, t) = *compare;
+    is_word_of(word, place, Op::Cmp(test, dest(a), dest(b), s, t))
+}
+
+fn is_word_of_immediate_compare(word: u64, place: &Place, compare: &Compare<i16>) -> bool {
+    let (test, a, b, s, imm) = *compare;
+    is_word_of(word, place, Op::CmpImm(test, dest(a), dest(b), s, imm))
+}
+
 #[test]
 fn words_and_their_readings(rt: HostRuntime) {
-    for (word, place, op) in WORDS {
-        is_word_of(&rt, word, place, op);
+    for (row, (word, place, op)) in WORDS.iter().enumerate() {
+        assert!(rt; is_word_of(*word, place, *op), "row {row}");
     }
-    for (word, place, (test, a, b, s, t)) in COMPARES {
-        is_word_of(&rt, word, place, Op::Cmp(test, dest(a), dest(b), s, t));
+    for (row, (word, place, compare)) in COMPARES.iter().enumerate() {
+        assert!(rt; is_word_of_compare(*word, place, compare), "row {row}");
     }
-    for (word, place, (test, a, b, s, imm)) in IMMEDIATE_COMPARES {
-        is_word_of(&rt, word, place, Op::CmpImm(test, dest(a), dest(b), s, imm));
+    for (row, (word, place, compare)) in IMMEDIATE_COMPARES.iter().enumerate() {
+        assert!(rt;
+            is_word_of_immediate_compare(*word, place, compare),
+            "row {row}"
+        );
     }
 }
 
@@ -375,13 +389,15 @@ const UNREADABLE: [(u64, &str); 52] = [
 
 #[test]
 fn words_without_a_reading(rt: HostRuntime) {
-    for (word, why) in UNREADABLE {
-        assert_eq!(rt; decode(word), None, "{why}");
+    for (word, why) in &UNREADABLE {
+        assert!(rt; decode(*word).is_none(), "{why}");
     }
 }
 
 /// Words, the issue cycle of each, and the block's end.
-const TIMES: [(&[u64], &[u32], u32); 5] = [
+type Timed = (&'static [u64], &'static [u32], u32);
+
+const TIMES: [Timed; 5] = [
     // Six MultiOps of one operation each.
     (
         &[
@@ -429,19 +445,23 @@ const TIMES: [(&[u64], &[u32], u32); 5] = [
 /// 512 MultiOps of one operation with the longest pause.
 const LONGEST: [u64; 512] = [0xA7EA_0000_0000_0000; 512];
 
-#[test]
-fn times_of_blocks(rt: HostRuntime) -> Result<(), Fail> {
-    for (words, at, end) in TIMES {
-        assert!(rt; words.len() <= 512);
-        let found = times(rt.alloc(), words)?;
-        assert_eq!(rt; found.at.as_slice(), at);
-        assert_eq!(rt; found.end, end);
+fn has_times(alloc: Global, case: &Timed) -> bool {
+    let (words, at, end) = *case;
+    if words.len() > 512 {
+        return false;
     }
-    let found = times(rt.alloc(), &LONGEST)?;
-    assert_eq!(rt; (found.at.len(), found.end), (512, 16384));
-    assert_eq!(rt;
-        (found.at.first(), found.at.last()),
-        (Some(&0), Some(&16352))
-    );
-    Ok(())
+    match times(alloc, words) {
+        Ok(found) => found.at.as_slice() == at && found.end == end,
+        Err(_) => false,
+    }
+}
+
+#[test]
+fn times_of_blocks(rt: HostRuntime) {
+    for (row, case) in TIMES.iter().enumerate() {
+        assert!(rt; has_times(rt.alloc(), case), "row {row}");
+    }
+    let found = times(rt.alloc(), &LONGEST).expect(&rt, "there is memory");
+    assert!(rt; found.at.len() == 512 && found.end == 16384);
+    assert!(rt; found.at.first() == Some(&0) && found.at.last() == Some(&16352));
 }
