@@ -4,7 +4,7 @@ ghost use Rattle.std.specs.Prelude.{◌≤◌};
 
 use super::blocks::good_block;
 use super::descriptions::{LONG, Numbers, SHORT, T1, T2, T3, described};
-use latency_deps::delays;
+use latency_deps::{delays, delays_into};
 use serial_order::{Delays, OrderFault, order};
 use std::alloc::{AllocError, Global};
 
@@ -48,6 +48,24 @@ fn delays_are_kept(rt: HostRuntime) {
     for (row, (i, j, want)) in GOT.iter().enumerate() {
         assert!(rt; is_got(&d, *i, *j, *want), "row {row}");
     }
+}
+
+/// A table with room for three operations is filled, and restarted with two and with three: nothing of before is left.
+fn is_restarted(alloc: Global) -> bool {
+    let Ok(mut d) = Delays::with_room(alloc, 3) else {
+        return false;
+    };
+    d.set(0, 1, 7);
+    d.set(2, 1, -31);
+    d.restart(2);
+    let two = is_got(&d, 0, 1, None) && d.count() == 2;
+    d.restart(3);
+    two && is_got(&d, 0, 1, None) && is_got(&d, 2, 1, None) && d.count() == 3
+}
+
+#[test]
+fn tables_are_restarted(rt: HostRuntime) {
+    assert!(rt; is_restarted(rt.alloc()));
 }
 
 /// A number of operations and pairs, and their order, or the least operation that is stuck.
@@ -549,6 +567,14 @@ fn delays_under(alloc: Global, own: &Numbers, words: &[u64], other: &Numbers) ->
     delays(alloc, &block, &described(other)?).ok()
 }
 
+/// The same, in a table that had room and was of nothing before.
+fn delays_in_room(alloc: Global, own: &Numbers, words: &[u64], other: &Numbers) -> Option<Delays> {
+    let block = good_block(alloc, own, words)?;
+    let mut d = Delays::with_room(alloc, block.count()).ok()?;
+    delays_into(&block, &described(other)?, &mut d);
+    Some(d)
+}
+
 /// Adds the pairs of an operation and those that it comes before.
 fn add_pairs(d: &Delays, i: u16, pairs: &mut Vec<Pair>) -> Result<(), AllocError> {
     for j in 0..d.count() {
@@ -570,15 +596,21 @@ fn pairs(alloc: Global, d: &Delays) -> Result<Vec<Pair>, AllocError> {
     Ok(pairs)
 }
 
-fn has_these_pairs(alloc: Global, case: &Delayed) -> bool {
-    let (own, words, other, expected) = *case;
-    let Some(d) = delays_under(alloc, &own, words, &other) else {
+fn are_pairs(alloc: Global, d: Option<Delays>, count: usize, expected: &[Pair]) -> bool {
+    let Some(d) = d else {
         return false;
     };
     match pairs(alloc, &d) {
-        Ok(found) => found.as_slice() == expected && d.count() as usize == words.len(),
+        Ok(found) => found.as_slice() == expected && d.count() as usize == count,
         Err(_) => false,
     }
+}
+
+fn has_these_pairs(alloc: Global, case: &Delayed) -> bool {
+    let (own, words, other, expected) = *case;
+    let d = delays_under(alloc, &own, words, &other);
+    let again = delays_in_room(alloc, &own, words, &other);
+    are_pairs(alloc, d, words.len(), expected) && are_pairs(alloc, again, words.len(), expected)
 }
 
 /// The block's own times decide the pairs, and the latencies of the description that is given the delays.

@@ -1,6 +1,6 @@
 // Descriptions of machines: those that the tests use, the numbers of one by kind, which numbers make one, and which are
 // the same.
-use machine_desc::{Generation, Mdes, same};
+use machine_desc::{Chosen, Fixed, Generation, Mdes, longest_busy, same};
 use operation::{LatKind, UnitKind};
 use std::process::Abort;
 
@@ -147,5 +147,50 @@ fn descriptions_are_the_same(rt: HostRuntime) {
     for (row, (numbers, is_same)) in SAME.iter().enumerate() {
         let other = described(numbers).expect(&rt, "in range");
         assert!(rt; same(&one, &other) == *is_same, "row {row}");
+    }
+}
+
+/// Whether a generation has these numbers, asked either way round.
+fn is_generation<G: Generation>(g: &G, numbers: &Numbers) -> bool {
+    match described(numbers) {
+        Some(m) => same(g, &m) && same(&m, g) && same(&Chosen::Given(m), g),
+        None => false,
+    }
+}
+
+/// Whether a generation has its numbers as constants.
+fn has_constants<F: Fixed>(_: &F, numbers: &Numbers) -> bool {
+    (F::WIDTH, F::UNITS, F::LATENCY) == (numbers.0, numbers.1, numbers.2)
+}
+
+#[test]
+fn built_in_generations(rt: HostRuntime) {
+    let (t1, t2, t3) = (machine_desc::T1, machine_desc::T2, machine_desc::T3);
+    assert!(rt; is_generation(&t1, &T1) && is_generation(&Chosen::T1(t1), &T1));
+    assert!(rt; is_generation(&t2, &T2) && is_generation(&Chosen::T2(t2), &T2));
+    assert!(rt; is_generation(&t3, &T3) && is_generation(&Chosen::T3(t3), &T3));
+    assert!(rt; has_constants(&t1, &T1) && has_constants(&t2, &T2) && has_constants(&t3, &T3));
+    assert!(rt; !same(&t1, &t2) && !same(&t2, &t3) && !same(&Chosen::T1(t1), &Chosen::T3(t3)));
+}
+
+/// A description, and the longest of its busy times.
+const LONGEST: [(Numbers, u8); 4] = [
+    (T1, 1),
+    (BUSY, 3),
+    ((2, UNITS, LATENCIES, BUSY_TIMES), 31),
+    ((2, UNITS, LATENCIES, [1, 2, 8, 1, 4, 2, 3, 1, 1]), 8),
+];
+
+fn is_longest(numbers: &Numbers, longest: u8) -> bool {
+    match described(numbers) {
+        Some(m) => longest_busy(&m) == longest,
+        None => false,
+    }
+}
+
+#[test]
+fn longest_busy_times(rt: HostRuntime) {
+    for (row, (numbers, longest)) in LONGEST.iter().enumerate() {
+        assert!(rt; is_longest(numbers, *longest), "row {row}");
     }
 }

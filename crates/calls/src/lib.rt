@@ -10,6 +10,8 @@ mod blocks;
 #[cfg(test)]
 mod delays;
 #[cfg(test)]
+mod description_files;
+#[cfg(test)]
 mod descriptions;
 #[cfg(test)]
 mod files;
