@@ -1,87 +1,110 @@
 // What was expected and what came: whether they are the same, and how that is told.
-use super::transcript::Expected;
 use super::trouble::Trouble;
 use std::alloc::{AllocError, Global};
 use tnk_base::MemoryHost;
 
-/// Compares what a run came to.
+/// Compares what a run came to with the lines behind `tinker`, and tells both where they differ.
 pub fn compare_run(
-    alloc: Global,
-    expected: &Expected,
+    told: &mut String,
+    lines: &[&str],
     status: u8,
     host: &MemoryHost,
 ) -> Result<(), Trouble> {
-    let mut told = String::new(alloc);
-    let output = expected.output.as_bytes();
-    if output != host.out() {
-        push_text(&mut told, "expected:", output)?;
-        push_text(&mut told, "put out: ", host.out())?;
-    }
-    push_numbers(&mut told, "status", expected.status as u64, status as u64)?;
-    let asked = host.asked().len();
-    push_numbers(
-        &mut told,
-        "calls",
-        expected.calls.unwrap_or(asked) as u64,
-        asked as u64,
-    )?;
-    push_numbers(&mut told, "faults", (status == 3) as u64, host.faults())?;
-    differs(told)
+    let mut shown = String::new(*told.allocator());
+    push_run(&mut shown, lines, status, host)?;
+    compare_lines(told, lines, &shown)
 }
 
-/// Compares what a file holds.
-pub fn compare_file(alloc: Global, expected: &[u8], found: &[u8]) -> Result<(), Trouble> {
-    let mut told = String::new(alloc);
-    if expected != found {
-        let at = first_difference(expected, found);
-        let (long, length) = (expected.len(), found.len());
-        writeln!(
-            told,
-            "expected: {long} bytes\nit holds: {length} bytes, others from offset {at} on"
-        )?;
-    }
-    differs(told)
-}
-
-fn differs(told: String) -> Result<(), Trouble> {
-    if told.is_empty() {
-        Ok(())
-    } else {
-        Err(Trouble::Differs(told))
-    }
-}
-
-/// A text line by line.
-fn push_text(told: &mut String, label: &str, text: &[u8]) -> Result<(), AllocError> {
-    let alloc = *told.allocator();
-    let text = String::from_utf8_lossy(alloc, text)?;
-    let lines: Vec<&str> = text.split('\n').collect(alloc)?;
-    let Some((last, lines)) = lines.split_last() else {
+/// Compares what a file holds, and tells what differs.
+pub fn compare_file(told: &mut String, expected: &[u8], found: &[u8]) -> Result<(), Trouble> {
+    if expected == found {
         return Ok(());
-    };
-    for line in lines {
-        writeln!(told, "{label} {line}")?;
     }
-    if !last.is_empty() {
-        writeln!(told, "{label} {last}\n{label} [no newline]")?;
+    let (long, length) = (expected.len(), found.len());
+    let at = first_difference(expected, found);
+    writeln!(told, "expected: {long} bytes")?;
+    writeln!(told, "it holds: {length} bytes, others from offset {at} on")?;
+    Err(Trouble::Differs)
+}
+
+fn compare_lines(told: &mut String, lines: &[&str], shown: &str) -> Result<(), Trouble> {
+    let expected = joined(*told.allocator(), lines)?;
+    compare_text(told, &expected, shown)
+}
+
+/// Compares two texts, and tells both where they differ.
+fn compare_text(told: &mut String, expected: &str, shown: &str) -> Result<(), Trouble> {
+    if expected == shown {
+        return Ok(());
+    }
+    let (expected, shown) = (or_nothing(expected), or_nothing(shown));
+    write!(told, "expected:\n{expected}put out:\n{shown}")?;
+    Err(Trouble::Differs)
+}
+
+/// The text, or a line that says that there is none.
+fn or_nothing(text: &str) -> &str {
+    if text.is_empty() { "[nothing]\n" } else { text }
+}
+
+/// Adds what a run came to, as a transcript shows it behind the command; the calls where its lines have their number.
+fn push_run(
+    shown: &mut String,
+    lines: &[&str],
+    status: u8,
+    host: &MemoryHost,
+) -> Result<(), AllocError> {
+    push_lossy(shown, host.out())?;
+    push_mark(shown, status != 0, "status", status as u64)?;
+    push_mark(
+        shown,
+        counts_calls(lines),
+        "calls",
+        host.asked().len() as u64,
+    )?;
+    let faults = host.faults();
+    push_mark(shown, faults != (status == 3) as u64, "faults", faults)
+}
+
+fn push_lossy(shown: &mut String, out: &[u8]) -> Result<(), AllocError> {
+    let out = String::from_utf8_lossy(*shown.allocator(), out)?;
+    push_output(shown, &out)
+}
+
+/// Adds an output, and whether it has a line that looks like those which stand behind it, and ends without a line feed.
+fn push_output(shown: &mut String, out: &str) -> Result<(), AllocError> {
+    let is_bare = !out.is_empty() && !out.ends_with('\n');
+    shown.push_str(out)?;
+    shown.push_str(if is_bare { "\n" } else { "" })?;
+    if out.starts_with('[') || out.contains("\n[") {
+        shown.push_str("[brackets]\n")?;
+    }
+    shown.push_str(if is_bare { "[no newline]\n" } else { "" })
+}
+
+/// A line with a name and a number, if it is to be said.
+fn push_mark(shown: &mut String, is_said: bool, name: &str, number: u64) -> Result<(), AllocError> {
+    if is_said {
+        writeln!(shown, "[{name} {number}]")?;
     }
     Ok(())
 }
 
-/// Two numbers, where they differ.
-fn push_numbers(
-    told: &mut String,
-    name: &str,
-    expected: u64,
-    found: u64,
-) -> Result<(), AllocError> {
-    if expected != found {
-        writeln!(
-            told,
-            "expected: [{name} {expected}]\nput out:  [{name} {found}]"
-        )?;
+/// Whether the last line has the number of calls.
+fn counts_calls(lines: &[&str]) -> bool {
+    match lines.last() {
+        Some(line) => line.starts_with("[calls "),
+        None => false,
     }
-    Ok(())
+}
+
+/// The lines with a line feed behind each.
+fn joined(alloc: Global, lines: &[&str]) -> Result<String, AllocError> {
+    let mut text = String::new(alloc);
+    for line in lines {
+        writeln!(text, "{line}")?;
+    }
+    Ok(text)
 }
 
 /// The first offset at which the bytes differ, or the shorter one's end.

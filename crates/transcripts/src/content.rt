@@ -2,64 +2,20 @@
 ghost use Rattle.std.specs.Prelude.{◌<◌, IfSome};
 
 use super::files::Files;
-use super::transcript::words;
 use super::trouble::Trouble;
+use super::words::{number, number_or};
 use std::alloc::Global;
 
 /// The most bytes that a file may have.
 const MOST: usize = 16_777_216;
-
-/// A part of a file.
-#[derive(Clone, Copy)]
-enum Part<'a> {
-    /// Bytes by their hexadecimal digits, so many times.
-    Bytes(&'a str, usize),
-    /// The bytes of another file from an offset on, up to an offset or the end.
-    File(&'a str, usize, Option<usize>),
-    /// From an offset of what stands so far, the bytes are these.
-    Change(usize, &'a str),
-}
-
-impl<'a> Part<'a> {
-    /// The part that a word is, if it is one.
-    fn read(word: &'a str) -> Option<Self> {
-        if let Some(text) = word.strip_prefix('@') {
-            return Part::of_file(text);
-        }
-        if let Some((offset, digits)) = word.split_once(':') {
-            return Some(Part::Change(number(offset)?, digits));
-        }
-        match word.split_once('*') {
-            Some((digits, times)) => Some(Part::Bytes(digits, number(times)?)),
-            None => Some(Part::Bytes(word, 1)),
-        }
-    }
-
-    /// NAME, or NAME[FROM..TO], of which either number may be left out.
-    fn of_file(text: &'a str) -> Option<Self> {
-        let Some((name, others)) = text.split_once('[') else {
-            return Some(Part::File(text, 0, None));
-        };
-        let (from, others) = others.split_once('.')?;
-        let (to, others) = others.strip_prefix('.')?.split_once(']')?;
-        if !others.is_empty() {
-            return None;
-        }
-        let from = if from.is_empty() { 0 } else { number(from)? };
-        let to = if to.is_empty() {
-            None
-        } else {
-            Some(number(to)?)
-        };
-        Some(Part::File(name, from, to))
-    }
-}
 
 /// A file as it is made, part by part.
 #[derive(Drop)]
 pub struct Content<'a> {
     alloc: Global,
     files: &'a Files,
+    /// The place of the line that is read, as `Trouble` has it.
+    place: usize,
     bytes: Vec<u8>,
 }
 
@@ -69,6 +25,7 @@ impl<'a> Content<'a> {
         Content {
             alloc,
             files,
+            place: 0,
             bytes: Vec::new(alloc),
         }
     }
@@ -78,52 +35,121 @@ impl<'a> Content<'a> {
         self.bytes
     }
 
-    /// Adds what the line at a place says.
-    pub fn add_line(&mut self, place: usize, line: &str) -> Result<(), Trouble> {
-        match line.strip_prefix('|') {
-            Some(text) => {
-                self.repeat(text.as_bytes(), 1)?;
-                self.repeat(b"\n", 1)
-            }
-            None => self.add_words(place, &words(self.alloc, place, line)?),
+    /// Adds these parts, and then what lines behind the command say.
+    pub fn add_all(&mut self, parts: &str, lines: &[&str]) -> Result<(), Trouble> {
+        if !parts.is_empty() {
+            self.add_parts(parts)?;
         }
-    }
-
-    /// Adds the parts that words of the line at a place are.
-    pub fn add_words(&mut self, place: usize, words: &[String]) -> Result<(), Trouble> {
-        for word in words {
-            match Part::read(word) {
-                Some(part) => self.add(place, part)?,
-                None => return Err(Trouble::Unreadable(place)),
-            }
+        for line in lines {
+            self.add_line(line)?;
         }
         Ok(())
     }
 
-    fn add(&mut self, place: usize, part: Part) -> Result<(), Trouble> {
-        match part {
-            Part::Bytes(digits, times) => self.repeat(&hex(self.alloc, place, digits)?, times),
-            Part::File(name, from, to) => {
-                let bytes = self.files.find(name)?;
-                self.repeat(cut(bytes, from, to.unwrap_or(bytes.len()))?, 1)
-            }
-            Part::Change(offset, digits) => {
-                change(&mut self.bytes, offset, &hex(self.alloc, place, digits)?)
-            }
+    /// Adds what the next line behind the command says.
+    fn add_line(&mut self, line: &str) -> Result<(), Trouble> {
+        self.place = self.place.saturating_add(1);
+        match line.strip_prefix('|') {
+            Some(text) => self.add_text(text),
+            None => self.add_parts(line),
         }
     }
 
-    /// Adds the bytes so many times.
-    fn repeat(&mut self, bytes: &[u8], times: usize) -> Result<(), Trouble> {
-        let room = MOST.saturating_sub(self.bytes.len());
-        if bytes.len().saturating_mul(times) > room {
+    /// Adds a text and a line feed.
+    fn add_text(&mut self, text: &str) -> Result<(), Trouble> {
+        self.push(text.as_bytes())?;
+        self.push(b"\n")
+    }
+
+    /// Adds the parts that stand in a line.
+    fn add_parts(&mut self, line: &str) -> Result<(), Trouble> {
+        for part in line.split(' ') {
+            self.add_part(part)?;
+        }
+        Ok(())
+    }
+
+    /// Adds a part as it is written.
+    fn add_part(&mut self, part: &str) -> Result<(), Trouble> {
+        if let Some(file) = part.strip_prefix('@') {
+            self.add_file(file)
+        } else if let Some((offset, digits)) = part.split_once(':') {
+            self.change(offset, digits)
+        } else if let Some((digits, times)) = part.split_once('*') {
+            self.repeat(digits, self.number(times)?)
+        } else {
+            self.repeat(part, 1)
+        }
+    }
+
+    /// Adds the bytes of a file, or those of a range of it in brackets.
+    fn add_file(&mut self, text: &str) -> Result<(), Trouble> {
+        let (name, range) = text.split_once('[').unwrap_or((text, "..]"));
+        let files = self.files;
+        let bytes = files.find(name)?;
+        match ends(range, bytes.len()) {
+            Some((from, to)) => self.push(cut(bytes, from, to)?),
+            None => Err(self.unreadable()),
+        }
+    }
+
+    /// Adds the bytes that digits say, so many times.
+    fn repeat(&mut self, digits: &str, times: usize) -> Result<(), Trouble> {
+        let bytes = self.hex(digits)?;
+        for _ in 0..times {
+            self.push(&bytes)?;
+        }
+        Ok(())
+    }
+
+    /// Puts the bytes that digits say in place of those that stand from an offset on.
+    fn change(&mut self, offset: &str, digits: &str) -> Result<(), Trouble> {
+        let offset = self.number(offset)?;
+        let bytes = self.hex(digits)?;
+        change(&mut self.bytes, offset, &bytes)
+    }
+
+    /// Adds bytes, up to the most that a file may have.
+    fn push(&mut self, bytes: &[u8]) -> Result<(), Trouble> {
+        if bytes.len() > MOST.saturating_sub(self.bytes.len()) {
             return Err(Trouble::PastTheEnd);
         }
-        for _ in 0..times {
-            self.bytes.extend_from_slice(bytes)?;
-        }
-        Ok(())
+        Ok(self.bytes.extend_from_slice(bytes)?)
     }
+
+    fn unreadable(&self) -> Trouble {
+        Trouble::Unreadable(self.place)
+    }
+
+    /// The number that decimal digits say.
+    fn number(&self, digits: &str) -> Result<usize, Trouble> {
+        match number(digits) {
+            Some(number) => Ok(number),
+            None => Err(self.unreadable()),
+        }
+    }
+
+    /// The bytes that hexadecimal digits say, two of them each.
+    fn hex(&self, digits: &str) -> Result<Vec<u8>, Trouble> {
+        let digits = digits.as_bytes();
+        let mut bytes = Vec::new(self.alloc);
+        if digits.is_empty() || digits.len() % 2 != 0 {
+            return Err(self.unreadable());
+        }
+        for index in 0..digits.len() / 2 {
+            match byte(digits[2 * index], digits[2 * index + 1]) {
+                Some(byte) => bytes.push(byte)?,
+                None => return Err(self.unreadable()),
+            }
+        }
+        Ok(bytes)
+    }
+}
+
+/// FROM..TO and a bracket, for so many bytes; either number may be left out.
+fn ends(range: &str, length: usize) -> Option<(usize, usize)> {
+    let (from, to) = range.strip_suffix(']')?.split_once("..")?;
+    Some((number_or(0, from)?, number_or(length, to)?))
 }
 
 /// The bytes from an offset up to another.
@@ -143,27 +169,6 @@ fn change(made: &mut [u8], offset: usize, bytes: &[u8]) -> Result<(), Trouble> {
     }
     made[offset..end].copy_from_slice(bytes);
     Ok(())
-}
-
-/// The number that decimal digits say.
-pub fn number(digits: &str) -> Option<usize> {
-    digits.parse().ok()
-}
-
-/// The bytes that hexadecimal digits on the line at a place say, two of them each.
-fn hex(alloc: Global, place: usize, digits: &str) -> Result<Vec<u8>, Trouble> {
-    let digits = digits.as_bytes();
-    let mut bytes = Vec::new(alloc);
-    if digits.len() % 2 != 0 {
-        return Err(Trouble::Unreadable(place));
-    }
-    for index in 0..digits.len() / 2 {
-        match byte(digits[2 * index], digits[2 * index + 1]) {
-            Some(byte) => bytes.push(byte)?,
-            None => return Err(Trouble::Unreadable(place)),
-        }
-    }
-    Ok(bytes)
 }
 
 /// The byte that two digits say.

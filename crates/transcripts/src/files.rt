@@ -1,9 +1,18 @@
 // The files of a transcript, and the hosts on which its commands run: a host has the files that a command's words name, and
 // gives back those that it kept.
+use super::content::cut;
 use super::trouble::Trouble;
 use std::alloc::Global;
 use std::collections::BTreeMap;
 use tnk_base::{Asked, MemoryHost};
+
+/// The first bytes of a file, which are to be the file of a name.
+#[derive(Clone, Copy)]
+pub struct Part<'a> {
+    pub name: &'a str,
+    pub file: &'a str,
+    pub length: usize,
+}
 
 /// Files by name.
 #[derive(Drop)]
@@ -39,20 +48,37 @@ impl Files {
     /// A host with the files that the words name, the calls of these numbers failing.
     pub fn host(&self, words: &[String], failing: &[u64]) -> Result<MemoryHost, Trouble> {
         let mut host = MemoryHost::new(self.alloc, failing.to_vec(self.alloc)?);
-        for word in words {
-            self.give(&mut host, word)?;
-            if let Some((_, name)) = word.split_once('=') {
-                self.give(&mut host, name)?;
-            }
-        }
+        self.give_all(&mut host, words)?;
         Ok(host)
     }
 
-    fn give(&self, host: &mut MemoryHost, name: &str) -> Result<(), Trouble> {
-        if let Ok(bytes) = self.find(name) {
-            host.with(name, bytes)?;
+    /// Gives the host the first bytes of a file.
+    pub fn give_part(&self, host: &mut MemoryHost, part: &Part) -> Result<(), Trouble> {
+        let bytes = cut(self.find(part.file)?, 0, part.length)?;
+        Ok(host.with(part.name, bytes)?)
+    }
+
+    fn give_all(&self, host: &mut MemoryHost, words: &[String]) -> Result<(), Trouble> {
+        for word in words {
+            self.give(host, word)?;
+            self.give_named(host, word)?;
         }
         Ok(())
+    }
+
+    /// Gives the file that a word names behind a `=`.
+    fn give_named(&self, host: &mut MemoryHost, word: &str) -> Result<(), Trouble> {
+        match word.split_once('=') {
+            Some((_, name)) => self.give(host, name),
+            None => Ok(()),
+        }
+    }
+
+    fn give(&self, host: &mut MemoryHost, name: &str) -> Result<(), Trouble> {
+        match self.by_name.get(name) {
+            Some(bytes) => Ok(host.with(name, bytes)?),
+            None => Ok(()),
+        }
     }
 
     /// Takes back the files that the host was asked to keep.

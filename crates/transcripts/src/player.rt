@@ -1,63 +1,77 @@
 // Plays the commands of a transcript over its files.
 use super::compare::{compare_file, compare_run};
-use super::content::{Content, cut, number};
-use super::files::Files;
+use super::content::Content;
+use super::files::{Files, Part};
 use super::report::Report;
-use super::transcript::{Block, Expected};
+use super::transcript::{Block, Verb};
 use super::trouble::Trouble;
-use std::alloc::Global;
-use std::mem;
+use super::words::{number, owned, range, split_name, split_word};
+use std::alloc::{AllocError, Global};
 use tinker_top::tinker;
-use tnk_base::{MemoryHost, NoMemory};
+use tnk_base::MemoryHost;
 
-/// Plays the whole transcript that stands in the file of this name.
-pub fn play(alloc: Global, name: &str, text: &str) -> Result<Report, NoMemory> {
+/// Plays the whole transcript, and tells what is wrong with it.
+pub fn play(alloc: Global, text: &str, report: &mut Report) -> Result<(), AllocError> {
     let lines: Vec<&str> = text.split('\n').collect(alloc)?;
-    let mut report = Report::new(alloc, name)?;
+    play_lines(alloc, &lines, report)
+}
+
+fn play_lines(alloc: Global, lines: &[&str], report: &mut Report) -> Result<(), AllocError> {
     let mut player = Player::new(alloc);
-    let mut commands: usize = 0;
-    for index in 0..lines.len() {
-        if let Some(block) = Block::at(&lines, index) {
-            commands = commands.saturating_add(1);
-            match player.play(&block) {
-                Ok(()) => {}
-                Err(Trouble::NoMemory) => return Err(NoMemory),
-                Err(trouble) => report.tell(&block, &trouble)?,
-            }
-        }
-    }
-    if commands == 0 {
-        report.tell_file("there is no command")?;
-    }
-    report.runs = player.runs;
-    Ok(report)
+    let played = player.play_all(lines, report);
+    report.runs = report.runs.saturating_add(player.runs);
+    played
 }
 
 /// First parts of a file, each of which is to be the file of a name.
-#[derive(Drop)]
-struct Prefixes {
-    name: String,
-    file: String,
+#[derive(Clone, Copy)]
+struct Prefixes<'a> {
+    name: &'a str,
+    file: &'a str,
     /// The shortest part's length.
     from: usize,
     /// One more than the longest part's length.
     to: usize,
 }
 
+impl<'a> Prefixes<'a> {
+    /// NAME FILE FROM..TO, of which the first number is below the second.
+    fn read(text: &'a str) -> Option<Self> {
+        let (name, others) = text.split_once(' ')?;
+        let (file, ends) = others.split_once(' ')?;
+        let (from, to) = range(ends)?;
+        Some(Prefixes {
+            name,
+            file,
+            from,
+            to,
+        })
+    }
+}
+
+/// A run of `tinker`: its words, and the lines behind it.
+#[derive(Clone, Copy)]
+struct Run<'a> {
+    words: &'a [String],
+    lines: &'a [&'a str],
+}
+
 /// What the commands so far have left.
 #[derive(Drop)]
-struct Player {
+struct Player<'a> {
     alloc: Global,
     files: Files,
     /// The numbers of the calls that fail in the next run.
     failing: Vec<u64>,
     /// The first parts that the next run is made over.
-    prefixes: Option<Prefixes>,
+    prefixes: Option<Prefixes<'a>>,
+    /// What differs at the command that is played.
+    differs: String,
     /// How many runs were made.
     runs: u64,
 }
 
-impl Player {
+impl<'a> Player<'a> {
     /// Nothing was played yet.
     fn new(alloc: Global) -> Self {
         Player {
@@ -65,68 +79,87 @@ impl Player {
             files: Files::new(alloc),
             failing: Vec::new(alloc),
             prefixes: None,
+            differs: String::new(alloc),
             runs: 0,
         }
     }
 
-    fn play(&mut self, block: &Block) -> Result<(), Trouble> {
-        let words = block.words(self.alloc)?;
-        let Some((verb, words)) = words.split_first() else {
-            return Err(Trouble::UnknownCommand);
-        };
-        match verb.as_str() {
-            "tinker" => self.tinker(words, &block.expected(self.alloc)?),
-            "file" => self.file(words, block),
-            "holds" => self.holds(words, block),
-            "absent" => self.absent(words, block),
-            "failing" => self.failing(words, block),
-            "prefixes" => self.prefixes(words, block),
-            _ => Err(Trouble::UnknownCommand),
+    fn play_all(&mut self, lines: &'a [&'a str], report: &mut Report) -> Result<(), AllocError> {
+        let mut is_empty = true;
+        for index in 0..lines.len() {
+            if let Some(block) = Block::at(lines, index) {
+                is_empty = false;
+                self.play(&block, report)?;
+            }
+        }
+        if is_empty {
+            report.tell_file("there is no command")?;
+        }
+        Ok(())
+    }
+
+    /// Plays a command, and tells what is wrong with it.
+    fn play(&mut self, block: &Block<'a>, report: &mut Report) -> Result<(), AllocError> {
+        self.differs.clear();
+        match self.perform(block) {
+            Ok(()) => Ok(()),
+            Err(Trouble::NoMemory) => Err(AllocError),
+            Err(trouble) => report.tell(block, trouble, &self.differs),
         }
     }
 
-    fn file(&mut self, words: &[String], block: &Block) -> Result<(), Trouble> {
-        let (name, bytes) = self.content(words, block)?;
+    fn perform(&mut self, block: &Block<'a>) -> Result<(), Trouble> {
+        let (verb, words) = split_word(block.command()?);
+        match Verb::of(verb)? {
+            Verb::Tinker => self.tinker(words, block.behind),
+            Verb::File => self.file(words, block.behind),
+            Verb::Holds => self.holds(words, block.behind),
+            Verb::Absent => self.absent(words, block),
+            Verb::Failing => self.failing(words, block),
+            Verb::Prefixes => self.prefixes(words, block),
+        }
+    }
+
+    fn file(&mut self, words: &str, lines: &[&str]) -> Result<(), Trouble> {
+        let (name, parts) = split_name(words)?;
+        let bytes = self.content(parts, lines)?;
         self.files.put(name, bytes)
     }
 
-    fn holds(&self, words: &[String], block: &Block) -> Result<(), Trouble> {
-        let (name, bytes) = self.content(words, block)?;
-        compare_file(self.alloc, &bytes, self.files.find(name)?)
+    fn holds(&mut self, words: &str, lines: &[&str]) -> Result<(), Trouble> {
+        let (name, parts) = split_name(words)?;
+        let bytes = self.content(parts, lines)?;
+        self.compare(name, &bytes)
     }
 
-    /// NAME and the bytes of CONTENT.
-    fn content<'w>(
-        &self,
-        words: &'w [String],
-        block: &Block,
-    ) -> Result<(&'w str, Vec<u8>), Trouble> {
-        let Some((name, words)) = words.split_first() else {
-            return Err(Trouble::Unreadable(0));
-        };
+    fn compare(&mut self, name: &str, bytes: &[u8]) -> Result<(), Trouble> {
+        compare_file(&mut self.differs, bytes, self.files.find(name)?)
+    }
+
+    /// The bytes of CONTENT: these parts, and those of the lines.
+    fn content(&self, parts: &str, lines: &[&str]) -> Result<Vec<u8>, Trouble> {
         let mut content = Content::new(self.alloc, &self.files);
-        content.add_words(0, words)?;
-        for (index, line) in block.behind.iter().enumerate() {
-            content.add_line(index + 1, line)?;
-        }
-        Ok((name, content.into_bytes()))
+        content.add_all(parts, lines)?;
+        Ok(content.into_bytes())
     }
 
-    fn absent(&self, words: &[String], block: &Block) -> Result<(), Trouble> {
+    fn absent(&mut self, words: &str, block: &Block) -> Result<(), Trouble> {
         block.alone()?;
-        let [name] = words else {
+        let (name, others) = split_name(words)?;
+        if !others.is_empty() {
             return Err(Trouble::Unreadable(0));
-        };
+        }
         match self.files.find(name) {
             Ok(_) => Err(Trouble::HasFile),
             Err(_) => Ok(()),
         }
     }
 
-    fn failing(&mut self, words: &[String], block: &Block) -> Result<(), Trouble> {
+    fn failing(&mut self, numbers: &str, block: &Block) -> Result<(), Trouble> {
         block.alone()?;
-        for word in words {
-            match number(word) {
+        block.used()?;
+        for digits in numbers.split(' ') {
+            match number(digits) {
                 Some(number) => self.failing.push(number as u64)?,
                 None => return Err(Trouble::Unreadable(0)),
             }
@@ -134,81 +167,61 @@ impl Player {
         Ok(())
     }
 
-    fn prefixes(&mut self, words: &[String], block: &Block) -> Result<(), Trouble> {
+    fn prefixes(&mut self, words: &'a str, block: &Block) -> Result<(), Trouble> {
         block.alone()?;
-        let [name, file, range] = words else {
-            return Err(Trouble::Unreadable(0));
-        };
-        let Some((from, to)) = ends(range) else {
-            return Err(Trouble::Unreadable(0));
-        };
-        self.prefixes = Some(Prefixes {
-            name: name.clone()?,
-            file: file.clone()?,
-            from,
-            to,
-        });
-        Ok(())
+        block.used()?;
+        self.prefixes = Prefixes::read(words);
+        match self.prefixes {
+            Some(_) => Ok(()),
+            None => Err(Trouble::Unreadable(0)),
+        }
     }
 
-    fn tinker(&mut self, words: &[String], expected: &Expected) -> Result<(), Trouble> {
-        let failing = mem::replace(&mut self.failing, Vec::new(self.alloc));
-        match self.prefixes.take() {
-            Some(prefixes) => self.run_over(&prefixes, words, &failing, expected),
+    fn tinker(&mut self, words: &str, lines: &[&str]) -> Result<(), Trouble> {
+        let words = owned(self.alloc, words)?;
+        let ran = self.run(&Run {
+            words: &words,
+            lines,
+        });
+        self.failing.clear();
+        self.prefixes = None;
+        ran
+    }
+
+    /// Makes a run, over each first part where there are some.
+    fn run(&mut self, run: &Run) -> Result<(), Trouble> {
+        match self.prefixes {
+            Some(prefixes) => self.run_over(&prefixes, run),
             None => {
-                let host = self.files.host(words, &failing)?;
-                self.run(host, words, expected)
+                let host = self.files.host(run.words, &self.failing)?;
+                self.run_on(host, run)
             }
         }
     }
 
     /// Runs over each first part, up to the first that differs.
-    fn run_over(
-        &mut self,
-        prefixes: &Prefixes,
-        words: &[String],
-        failing: &[u64],
-        expected: &Expected,
-    ) -> Result<(), Trouble> {
+    fn run_over(&mut self, prefixes: &Prefixes, run: &Run) -> Result<(), Trouble> {
         for length in prefixes.from..prefixes.to {
-            let mut host = self.files.host(words, failing)?;
-            let whole = self.files.find(&prefixes.file)?;
-            host.with(&prefixes.name, cut(whole, 0, length)?)?;
-            match self.run(host, words, expected) {
-                Err(Trouble::Differs(told)) => return Err(over(
-                    self.alloc,
-                    &prefixes.file,
-                    length,
-                    &told,
-                )?),
-                ran => ran?,
+            let (name, file) = (prefixes.name, prefixes.file);
+            if let Err(trouble) = self.run_part(&Part { name, file, length }, run) {
+                writeln!(self.differs, "over the first {length} bytes of {file}")?;
+                return Err(trouble);
             }
         }
         Ok(())
     }
 
-    fn run(
-        &mut self,
-        mut host: MemoryHost,
-        words: &[String],
-        expected: &Expected,
-    ) -> Result<(), Trouble> {
-        let status = tinker(self.alloc, &mut host, words);
+    /// Runs over a first part.
+    fn run_part(&mut self, part: &Part, run: &Run) -> Result<(), Trouble> {
+        let mut host = self.files.host(run.words, &self.failing)?;
+        self.files.give_part(&mut host, part)?;
+        self.run_on(host, run)
+    }
+
+    fn run_on(&mut self, mut host: MemoryHost, run: &Run) -> Result<(), Trouble> {
+        let status = tinker(self.alloc, &mut host, run.words);
         self.runs = self.runs.saturating_add(1);
         self.files.take_kept(&host)?;
-        compare_run(self.alloc, expected, status, &host)
+        compare_run(&mut self.differs, run.lines, status, &host)
     }
-}
-
-/// What differs in a run over the first bytes of a file.
-fn over(alloc: Global, file: &str, length: usize, told: &str) -> Result<Trouble, NoMemory> {
-    let told = format!(in alloc; "over the first {length} bytes of {file}\n{told}")?;
-    Ok(Trouble::Differs(told))
-}
-
-/// FROM..TO, of which the first is below the second.
-fn ends(text: &str) -> Option<(usize, usize)> {
-    let (from, to) = text.split_once('.')?;
-    let (from, to) = (number(from)?, number(to.strip_prefix('.')?)?);
-    if from < to { Some((from, to)) } else { None }
 }
