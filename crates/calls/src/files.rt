@@ -32,7 +32,7 @@ fn put_in(bytes: &mut Vec<u8>, place: usize, those: &[u8]) -> Result<(), AllocEr
 }
 
 /// Gives some bytes other values.
-fn change(bytes: &mut [u8], changes: &[(usize, u8)]) {
+pub(crate) fn change(bytes: &mut [u8], changes: &[(usize, u8)]) {
     for (offset, value) in changes {
         if let Some(place) = bytes.get_mut(*offset) {
             *place = *value;

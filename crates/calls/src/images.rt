@@ -5,6 +5,7 @@ ghost use Rattle.image_format.specs.Image.{IsWithinLimits};
 ghost use Rattle.image_format.specs.Parts.{image_of};
 
 use super::descriptions::{Numbers, SHORT, T1, T2, WIDER, described};
+use super::files::change;
 use image_check::{Accepted, check, program};
 use image_format::{Parts, Row, write_parts};
 use latency_deps::GoodBlock;
@@ -64,6 +65,9 @@ fn words(alloc: Global, pages: u16, placed: &[(u16, &[u64])]) -> Result<Vec<u64>
     Ok(words)
 }
 
+/// The initial bytes of each image.
+const INIT: [u8; 2] = [7, 9];
+
 /// The parts of an image of one page or two, with eight bytes of memory.
 fn parts(alloc: Global, pages: u16, image: &Image) -> Option<Parts>
     ensures { IfSome result (λ p. IsWithinLimits (image_of p)) }
@@ -87,15 +91,6 @@ fn parts(alloc: Global, pages: u16, image: &Image) -> Option<Parts>
     })
 }
 
-/// Gives some bytes other values.
-fn change(bytes: &mut [u8], changes: &[(usize, u8)]) {
-    for (offset, value) in changes {
-        if let Some(place) = bytes.get_mut(*offset) {
-            *place = *value;
-        }
-    }
-}
-
 /// The image of so many pages, with some bytes changed, where it is accepted.
 fn accepted(alloc: Global, pages: u16, image: &Image, changes: &[(usize, u8)]) -> Option<Accepted> {
     let parts = parts(alloc, pages, image)?;
@@ -103,9 +98,6 @@ fn accepted(alloc: Global, pages: u16, image: &Image, changes: &[(usize, u8)]) -
     change(&mut bytes, changes);
     check(alloc, &bytes).ok()
 }
-
-/// The initial bytes of each image.
-const INIT: [u8; 2] = [7, 9];
 
 const ONE_ROW: Image = (T1, 0, &[(0, 3)], &[(0, &[ADD, PUT, HALT])]);
 

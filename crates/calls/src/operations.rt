@@ -146,7 +146,7 @@ const UC: Dest = Dest {
     action: Action::Uc,
 };
 
-fn tests(case: &Tested) -> bool {
+fn decides(case: &Tested) -> bool {
     let (test, first, second, imm, holds) = *case;
     let immediate = Operands { first, ..NONE };
     let register = Operands {
@@ -161,7 +161,7 @@ fn tests(case: &Tested) -> bool {
 #[test]
 fn tests_of_compares(rt: HostRuntime) {
     for (row, case) in TESTS.iter().enumerate() {
-        assert!(rt; tests(case), "row {row}");
+        assert!(rt; decides(case), "row {row}");
     }
 }
 
