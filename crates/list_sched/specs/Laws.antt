@@ -1,7 +1,10 @@
 -- What holds of list schedules.
-use Rattle.std.specs.Prelude.{ℕ, ◌≡◌, ◌≢◌, ◌+◌, ◌*◌, ◌<◌, ◌≤◌, ℤ, pos, ◌+ℤ◌, ◌≤ℤ◌, Some}
+use Rattle.std.specs.Prelude.{ℕ, ◌≡◌, ◌≢◌, ◌+◌, ◌*◌, ◌<◌, ◌≤◌, ℤ, pos, ◌+ℤ◌, ◌≤ℤ◌, Some, nat_eq, List, slice_index}
 use Rattle.serial_order.specs.Lists.{Among, Earlier}
 use Rattle.serial_order.specs.SerialOrder.{IsOrder}
+use Rattle.std.specs.List.{count_by}
+use Rattle.operation.specs.declared.UnitKind.{UnitKind}
+use Rattle.list_sched.specs.Slots.{Slots, Taken, busy_in, empty, AreTaken, is_busy_in}
 use Rattle.list_sched.specs.Schedule.{Problem, Schedule, IsProblem, IsSchedule, is_before, IsBefore, IsBranch, landing}
 
 -- where i is before j, j issues at least the delay after i and is placed later
@@ -56,3 +59,11 @@ EachHasASchedule = (p : Problem) → IsProblem p → (s : Schedule) × IsSchedul
 -- which ends by 32 cycles an operation
 abbrev pub SchedulesAreShort : Type 0
 SchedulesAreShort = (p : Problem) (s : Schedule) → IsProblem p → IsSchedule p s → s.end ≤ 32 * p.count
+
+-- slots count the operations that took them: how many issue in a cycle, and how many are busy in it on units of a kind
+pub record Counts (taken : List Taken) (s : Slots) (n : ℕ) : Type 0 where
+  pub issued : (c : ℕ) → c < n → slice_index s.issued c ≡ count_by (λ t. nat_eq t.cycle c) taken
+  pub busy : (c : ℕ) (u : UnitKind) → c < n → busy_in s c u ≡ count_by (is_busy_in c u) taken
+
+abbrev pub SlotsCount : Type 0
+SlotsCount = (n : ℕ) (taken : List Taken) (s : Slots) → AreTaken taken (empty n) s → Counts taken s n

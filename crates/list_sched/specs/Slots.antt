@@ -1,5 +1,5 @@
 -- The slots of a machine's cycles, which operations take.
-use Rattle.std.specs.Prelude.{ℕ, ◌≡◌, ◌+◌, ◌*◌, ◌^◌, ◌<◌, ◌≤◌, nat_lt, nat_le, ◌&&◌, if◌then◌else◌, List, length, slice_index, slice_set, replicate}
+use Rattle.std.specs.Prelude.{ℕ, ◌≡◌, ◌+◌, ◌*◌, ◌^◌, ◌<◌, ◌≤◌, nat_lt, nat_le, ◌&&◌, if◌then◌else◌, Bool, List, [], ◌∷◌, length, slice_index, slice_set, replicate}
 use Rattle.operation.specs.declared.UnitKind.{UnitKind}
 use Rattle.operation.specs.Places.{unit_number}
 use Rattle.machine_desc.specs.Description.{Description, units_of}
@@ -45,3 +45,18 @@ pub record IsTaken (old new : Slots) (u : UnitKind) (busy c : ℕ) : Type 0 wher
   pub issued : new.issued ≡ slice_set old.issued c (slice_index old.issued c + 1)
   pub busier : IsBusier old.busy new.busy u c (c + busy)
   pub size : length new.busy ≡ length old.busy
+
+-- an operation that took slots: the cycle in which it issues, the unit kind that it needs, and for how many cycles it is busy
+pub record Taken : Type 0 where
+  pub cycle : ℕ
+  pub unit : UnitKind
+  pub busy : ℕ
+
+-- these operations took slots, one after another
+abbrev pub AreTaken : List Taken → (old new : Slots) → Type 0
+AreTaken [] old new = old ≡ new
+AreTaken (t ∷ ts) old new = (t.cycle + t.busy ≤ cycles old) × (1 ≤ t.busy) × (mid : Slots) × IsTaken old mid t.unit t.busy t.cycle × AreTaken ts mid new
+
+-- an operation is busy in a cycle on a unit of the kind
+abbrev pub is_busy_in : ℕ → UnitKind → Taken → Bool
+is_busy_in c u t = (nat_le t.cycle c && nat_lt c (t.cycle + t.busy)) && same_unit t.unit u

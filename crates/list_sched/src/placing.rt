@@ -4,6 +4,7 @@ ghost use Rattle.operation.specs.declared.UnitKind.TheVariants as unit;
 ghost use Rattle.serial_order.specs.Table.{delay_of, before};
 ghost use Rattle.list_sched.specs.Schedule.{IsProblem, IsSchedule, AreHeights};
 ghost use Rattle.list_sched.specs.Given.{problem_of, unit_in, kind_in};
+ghost use Rattle.list_sched.specs.Planned.{schedule_of};
 ghost use Rattle.machine_desc.specs.Description.{latency_of, busy_of};
 ghost use Rattle.list_sched.specs.Slots.{cycles, HasRoomFor};
 ghost use Rattle.list_sched.specs.Steps.{IsAllowed};
@@ -115,7 +116,8 @@ pub(crate) fn place<G: Generation>(
     requires heights { length heights.now ≡ d.now.count }
     requires problem { IsProblem (problem_of d.now kinds.now (G.description g.now)) }
     requires high { AreHeights (problem_of d.now kinds.now (G.description g.now)) (slice_index heights.now) }
-    ensures { IfOk result (λ s. IsSchedule (problem_of d.now kinds.now (G.description g.now)) (record { order = s.order.items; cycle = slice_index s.cycle.items; end = s.end })) }
+    ensures schedule { IfOk result (λ s. IsSchedule (problem_of d.now kinds.now (G.description g.now)) (schedule_of s)) }
+    ensures cycles { IfOk result (λ s. length s.cycle.items ≡ d.now.count) }
 {
     let n = d.count() as usize;
     let mut cycle = vec![in alloc; 0u32; n]?;

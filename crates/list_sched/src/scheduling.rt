@@ -1,7 +1,8 @@
 // The list schedule.
-ghost use Rattle.std.specs.Prelude.{◌≡◌, length, slice_index, IfOk};
+ghost use Rattle.std.specs.Prelude.{◌≡◌, length, IfOk};
 ghost use Rattle.list_sched.specs.Schedule.{IsProblem, IsSchedule};
 ghost use Rattle.list_sched.specs.Given.{problem_of};
+ghost use Rattle.list_sched.specs.Planned.{schedule_of};
 
 use crate::height::heights;
 use crate::placing::place;
@@ -30,7 +31,8 @@ pub fn schedule<G: Generation>(
 ) -> Result<Planned, NoMemory>
     requires count { length kinds.now ≡ d.now.count }
     requires problem { IsProblem (problem_of d.now kinds.now (G.description g.now)) }
-    ensures { IfOk result (λ s. IsSchedule (problem_of d.now kinds.now (G.description g.now)) (record { order = s.order.items; cycle = slice_index s.cycle.items; end = s.end })) }
+    ensures schedule { IfOk result (λ s. IsSchedule (problem_of d.now kinds.now (G.description g.now)) (schedule_of s)) }
+    ensures cycles { IfOk result (λ s. length s.cycle.items ≡ d.now.count) }
 {
     let serial = match order(alloc, d) {
         Ok(serial) => serial,

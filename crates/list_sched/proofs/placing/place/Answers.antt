@@ -132,5 +132,8 @@ loop-step-preserved g c =
           (subst (λ n. (c.greater-end.result ≡ c.loop-step.end) ⊎ (c.greater-end.result ≡ v + n)) late c.greater-end.ensures.one);
     })
 
-pub returns : goal.returns
-returns g c = done c.args.d.now c.args.kinds.now (g.G.Generation.description c.args.g.now) c.args.heights.now c.requires.problem c.loop-step.waits.items c.loop-step.placed.items c.loop-step.order.items c.loop-step.cycle.items c.loop-step.slots c.loop-step.end c.loop-step.invariant.plan c.requires.high (let t = c.loop-step-test.false in let e = c.count-n.ensures.value in let k = c.loop-step.invariant.count in let a = c.loop-step.auto in omega arith)
+pub returns-clause-schedule : goal.returns-clause-schedule
+returns-clause-schedule g c = done c.args.d.now c.args.kinds.now (g.G.Generation.description c.args.g.now) c.args.heights.now c.requires.problem c.loop-step.waits.items c.loop-step.placed.items c.loop-step.order.items c.loop-step.cycle.items c.loop-step.slots c.loop-step.end c.loop-step.invariant.plan c.requires.high (let t = c.loop-step-test.false in let e = c.count-n.ensures.value in let k = c.loop-step.invariant.count in let a = c.loop-step.auto in omega arith)
+
+pub returns-clause-cycles : goal.returns-clause-cycles
+returns-clause-cycles g c = c.loop-step.invariant.plan.cycles
