@@ -26,6 +26,8 @@ mod operations;
 #[cfg(test)]
 mod places;
 #[cfg(test)]
+mod schedules;
+#[cfg(test)]
 mod tables;
 #[cfg(test)]
 mod texts;

@@ -3,7 +3,7 @@ use Rattle.std.proofs.Common.{◌≡◌, ℕ, suc, ◌+◌, ◌<◌, ◌≤◌, 
 use Rattle.std.specs.Prelude.{ℤ, pos, ◌+ℤ◌, ◌≤ℤ◌}
 use Rattle.std.proofs.lemmas.Int.{ints}
 use Rattle.std.proofs.lemmas.Bool.{cases_lt}
-use Rattle.serial_order.specs.Table.{Table, delay_of, before}
+use Rattle.serial_order.specs.Table.{Table, delay_of}
 use Rattle.serial_order.specs.SerialOrder.{IsOrder}
 use Rattle.std.proofs.Math.Seq.{split_at, drop-cons}
 use Rattle.std.proofs.lemmas.List.{get_or_default}
@@ -13,7 +13,7 @@ use Rattle.operation.specs.declared.LatKind.{LatKind}
 use Rattle.operation.specs.declared.LatKind.TheVariants as lat
 use Rattle.machine_desc.specs.Description.{Description, latency_of, busy_of}
 use Rattle.list_sched.specs.Given.{unit_in, kind_in}
-use Rattle.list_sched.proofs.Lists.{onto}
+use Rattle.serial_order.proofs.Onto.{onto}
 use Rattle.list_sched.specs.Schedule.{Problem, IsProblem, is_before, Climb, From}
 use Rattle.list_sched.proofs.Serial.{IsSerial, in_table, both_inside}
 use Rattle.list_sched.proofs.Places.{has_delay}

@@ -6,9 +6,8 @@ use Rattle.std.proofs.lemmas.Bool.{cases_lt, cases_eq, ne_eqb, and_left, and_rig
 use Rattle.std.proofs.lemmas.Int.{ints}
 use Rattle.serial_order.specs.Lists.{Among}
 use Rattle.machine_desc.specs.Issue.{issuing, busy_on}
-use Rattle.serial_order.specs.Table.{delay_of}
 use Rattle.list_sched.specs.Extremes.{IsLeast}
-use Rattle.list_sched.proofs.Lists.{onto, among_left, among_onto}
+use Rattle.serial_order.proofs.Onto.{onto, among_left, among_onto}
 use Rattle.list_sched.specs.Schedule.{Problem, IsBefore, Schedule, IsProblem, IsSchedule, CanIssue, ArePlaced, busy}
 use Rattle.list_sched.specs.Laws.{IsUsed, IsClose, SchedulesAreClose}
 use Rattle.list_sched.proofs.Places.{has_delay, inside_of}

@@ -6,11 +6,10 @@ use Rattle.std.proofs.lemmas.Bool.{cases_eq, cases_lt, ne_eqb, eq-eqb, false≢t
 use Rattle.operation.specs.declared.UnitKind.{UnitKind}
 use Rattle.operation.specs.declared.UnitKind.TheVariants as unit
 use Rattle.serial_order.specs.Lists.{Among, Earlier, EachOnce}
-use Rattle.serial_order.specs.Table.{delay_of}
 use Rattle.list_sched.specs.Extremes.{IsLeast, IsGreatest}
 use Rattle.machine_desc.specs.Issue.{issuing, busy_on}
 use Rattle.serial_order.proofs.Earlier.{never_both}
-use Rattle.list_sched.proofs.Lists.{onto, among_right, earlier_onto, before_it}
+use Rattle.serial_order.proofs.Onto.{onto, among_right, earlier_onto, before_it}
 use Rattle.list_sched.proofs.Serial.{IsSerial, both_inside, some_order}
 use Rattle.list_sched.specs.Schedule.{Problem, IsBefore, IsProblem, IsReady, IsNext, IsBranch, CanIssue, ArePlaced, Climb, Itself, From, latency, busy}
 use Rattle.list_sched.specs.Laws.{EachHasASchedule}

@@ -1,17 +1,15 @@
 -- A problem has at most one schedule.
-use Rattle.std.proofs.Common.{◌≡◌, ℕ, ◌+◌, ◌<◌, ◌≤◌, Bool, cond, ◌&&◌, List, [], ◌∷◌, ◌⊎◌, inl, inr, refl, sym, ap, subst, ◌∙◌, arith}
+use Rattle.std.proofs.Common.{◌≡◌, ℕ, ◌+◌, ◌<◌, ◌≤◌, ◌&&◌, List, [], ◌∷◌, ◌⊎◌, inl, inr, refl, sym, ap, subst, ◌∙◌, arith}
 use Rattle.std.specs.Prelude.{ℤ, pos, ◌+ℤ◌, ◌≤ℤ◌, nat_eq, nat_le, nat_lt}
-use Rattle.std.specs.List.{count_by}
 use Rattle.std.proofs.lemmas.Int.{ints}
 use Rattle.serial_order.specs.Lists.{Among, Earlier, EachOnce}
-use Rattle.serial_order.specs.Table.{delay_of}
 use Rattle.list_sched.specs.Extremes.{IsGreatest}
 use Rattle.machine_desc.specs.Issue.{issuing, busy_on, same_unit}
 use Rattle.serial_order.proofs.Members.{earlier_right}
 use Rattle.serial_order.proofs.Earlier.{never_both}
-use Rattle.list_sched.proofs.Lists.{onto, among_onto, among_right, earlier_across}
-use Rattle.list_sched.proofs.Counts.{count_cons}
-use Rattle.list_sched.proofs.Serial.{IsSerial, both_inside, some_order}
+use Rattle.serial_order.proofs.Onto.{onto, among_onto, among_right, earlier_across}
+use Rattle.list_sched.proofs.Counts.{count_agree}
+use Rattle.list_sched.proofs.Serial.{IsSerial, some_order}
 use Rattle.list_sched.specs.Schedule.{Problem, IsBefore, IsProblem, IsNext, CanIssue, ArePlaced, AreHeights, Climb, Itself, From, latency, busy}
 use Rattle.list_sched.specs.Laws.{OneSchedule}
 use Rattle.machine_desc.specs.Description.{units_of}
@@ -46,14 +44,6 @@ module _ (p : Problem) (ok : IsProblem p) where
 
   heights_same : (h h' : ℕ → ℕ) → AreHeights p h → AreHeights p h' → (i : ℕ) → i < p.count → h i ≡ h' i
   heights_same h h' g g' i lt = heights_in (some_order p ok).0 (some_order p ok).1 h h' g g' [] (some_order p ok).0 refl i (((some_order p ok).1.complete i).1 lt)
-
-  count_agree : (f g : ℕ → Bool) (l : List ℕ) → ((k : ℕ) → Among k l → f k ≡ g k) → count_by f l ≡ count_by g l
-  count_agree f g [] h = refl
-  count_agree f g (x ∷ xs) h =
-      count_cons f x xs
-      ∙ ap (λ b. cond b 1 0 + count_by f xs) (h x (inl refl))
-      ∙ ap (λ n. cond (g x) 1 0 + n) (count_agree f g xs (λ k a. h k (inr a)))
-      ∙ sym (count_cons g x xs)
 
   pub can_issue_same : (cycle cycle' : ℕ → ℕ) (past : List ℕ) (i c : ℕ) → ((k : ℕ) → Among k past → cycle k ≡ cycle' k) → ((k : ℕ) → IsBefore p k i → Among k past) → CanIssue p cycle past i c → CanIssue p cycle' past i c
   can_issue_same cycle cycle' past i c same after h = record {

@@ -1,18 +1,17 @@
 -- What each operation of a schedule keeps when it is placed.
 use Rattle.std.proofs.Common.{◌≡◌, ℕ, ◌+◌, ◌<◌, ◌≤◌, Bool, true, false, cond, List, [], ◌∷◌, inl, inr, refl, sym, ap, subst, Option, Some, None, arith}
-use Rattle.std.specs.Prelude.{ℤ, pos, ◌+ℤ◌, ◌≤ℤ◌, IsSome, nat_eq, nat_le, nat_lt, ◌&&◌}
+use Rattle.std.specs.Prelude.{ℤ, pos, ◌+ℤ◌, ◌≤ℤ◌, IsSome, nat_eq, nat_le, nat_lt}
 use Rattle.std.specs.List.{count_by}
+use Rattle.machine_desc.proofs.SameUnit.{same_unit_is}
 use Rattle.list_sched.proofs.Counts.{count_cons}
-use Rattle.std.proofs.lemmas.Bool.{false≢true, eqb-true, leb-true, ltb-true, and_parts}
+use Rattle.std.proofs.lemmas.Bool.{eqb-true, leb-true, ltb-true, and_parts}
 use Rattle.serial_order.specs.Lists.{Among, Earlier, EachOnce}
-use Rattle.serial_order.specs.Table.{delay_of}
 use Rattle.list_sched.specs.Extremes.{IsLeast}
 use Rattle.machine_desc.specs.Issue.{issuing, busy_on, is_busy, keeps_busy, same_unit}
 use Rattle.operation.specs.declared.UnitKind.{UnitKind}
-use Rattle.operation.specs.declared.UnitKind.TheVariants as unit
-use Rattle.list_sched.proofs.Lists.{onto, earlier_across}
+use Rattle.serial_order.proofs.Onto.{onto, earlier_across}
 use Rattle.list_sched.specs.Schedule.{Problem, IsBefore, IsNext, CanIssue, ArePlaced, busy}
-use Rattle.list_sched.proofs.Serial.{some_delay, both_inside}
+use Rattle.list_sched.proofs.Serial.{both_inside}
 use Rattle.machine_desc.specs.Description.{units_of}
 use Rattle.list_sched.specs.Laws.{SchedulesKeep}
 
@@ -66,14 +65,6 @@ later_unplaced p height cycle past (k ∷ ks) i a m (inr h) = later_unplaced p h
 pub placed_once : (p : Problem) (height cycle : ℕ → ℕ) (past rest : List ℕ) → ArePlaced p height cycle past rest → EachOnce rest
 placed_once p height cycle past [] a = tt
 placed_once p height cycle past (k ∷ ks) a = (later_unplaced p height cycle (k ∷ past) ks k a.2 (inl refl), placed_once p height cycle (k ∷ past) ks a.2)
-
-pub same_unit_is : (u v : UnitKind) → same_unit u v ≡ true → u ≡ v
-same_unit_is unit.I unit.I e = refl
-same_unit_is unit.M unit.M e = refl
-same_unit_is unit.L unit.L e = refl
-same_unit_is unit.P unit.P e = refl
-same_unit_is unit.B unit.B e = refl
-same_unit_is _ _ e = absurd (false≢true e)
 
 -- one more operation is counted where there was room for it
 count_kept : (test : ℕ → Bool) (most k : ℕ) (past : List ℕ) → (test k ≡ true → count_by test past < most) → count_by test past ≤ most → count_by test (k ∷ past) ≤ most

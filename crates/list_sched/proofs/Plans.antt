@@ -1,11 +1,10 @@
 -- Placing one operation after another: what holds after each step.
-use Rattle.std.proofs.Common.{◌≡◌, ◌≢◌, ℕ, zero, suc, ◌+◌, ◌*◌, ◌<◌, ◌≤◌, Bool, true, false, cond, ◌&&◌, List, [], ◌∷◌, ◌++◌, length, get_or, set, ◌⊎◌, inl, inr, refl, sym, ap, subst, ◌∙◌, arith, length-append, get_or-set_other, get_or-set_same}
-use Rattle.std.specs.Prelude.{replicate, slice_index, slice_index_or, slice_set, nat_eq, nat_le, nat_lt, count_by, ℤ, pos, ◌+ℤ◌, ◌≤ℤ◌, Some}
+use Rattle.std.proofs.Common.{◌≡◌, ◌≢◌, ℕ, ◌+◌, ◌*◌, ◌<◌, ◌≤◌, Bool, true, false, cond, ◌&&◌, List, [], ◌∷◌, ◌++◌, length, ◌⊎◌, inl, inr, refl, sym, ap, subst, ◌∙◌, arith, get_or-set_other, get_or-set_same}
+use Rattle.std.specs.Prelude.{replicate, slice_index, slice_index_or, slice_set, nat_eq, nat_le, nat_lt, count_by}
 use Rattle.std.proofs.lemmas.Int.{ints}
-use Rattle.std.proofs.lemmas.Bool.{cases_lt, cases_eq, cases_Bool, ne_eqb, eq-eqb, lt-ltb, le-ltb, lt-leb, le-leb, false≢true, and_from, and_right, and_left}
+use Rattle.std.proofs.lemmas.Bool.{cases_lt, cases_eq, ne_eqb, eq-eqb}
 use Rattle.std.proofs.lemmas.List.{length-set, length-replicate, get_or-replicate}
 use Rattle.std.proofs.lemmas.List.Sums.{sum_by-append}
-use Rattle.std.proofs.lemmas.Nat.{same_from_place}
 use Rattle.operation.specs.declared.UnitKind.{UnitKind}
 use Rattle.operation.specs.declared.UnitKind.TheVariants as unit
 use Rattle.operation.specs.declared.LatKind.{LatKind}
@@ -20,9 +19,10 @@ use Rattle.serial_order.proofs.Members.{among_push, among_left, among_last}
 use Rattle.machine_desc.specs.Issue.{issuing, busy_on, keeps_busy, same_unit}
 use Rattle.list_sched.specs.Extremes.{IsLeast}
 use Rattle.list_sched.specs.Schedule.{Problem, IsProblem, IsSchedule, IsNext, CanIssue, ArePlaced, AreHeights}
-use Rattle.list_sched.proofs.Counts.{count_cons}
+use Rattle.list_sched.proofs.Counts.{count_agree}
+use Rattle.machine_desc.specs.Ranges.{unit_below}
 use Rattle.list_sched.proofs.Close.{can_issue_far}
-use Rattle.list_sched.proofs.Places.{has_delay, inside_of, placed_once, same_unit_is}
+use Rattle.list_sched.proofs.Places.{has_delay, inside_of, placed_once}
 use Rattle.list_sched.specs.Given.{problem_of, unit_in, kind_in}
 use Rattle.list_sched.specs.Slots.{Slots, cycles as cycle_count, busy_in, empty, HasRoomFor, IsTaken}
 use Rattle.list_sched.specs.Steps.{IsFree, IsFirstFree, IsAllowed}
@@ -33,36 +33,6 @@ use Rattle.list_sched.proofs.Steps.{placed_step, soon_step, all_there}
 
 count_push : (p : ℕ → Bool) (xs : List ℕ) (x : ℕ) → count_by p (xs ++ x ∷ []) ≡ count_by p xs + cond (p x) 1 0
 count_push p xs x = let e = sum_by-append (λ y. cond (p y) 1 0) xs (x ∷ []) in e ∙ (omega arith)
-
-count_agree : (f g : ℕ → Bool) (l : List ℕ) → ((k : ℕ) → Among k l → f k ≡ g k) → count_by f l ≡ count_by g l
-count_agree f g [] h = refl
-count_agree f g (x ∷ xs) h =
-    count_cons f x xs
-    ∙ ap (λ b. cond b 1 0 + count_by f xs) (h x (inl refl))
-    ∙ ap (λ n. cond (g x) 1 0 + n) (count_agree f g xs (λ k a. h k (inr a)))
-    ∙ sym (count_cons g x xs)
-
-same_unit_refl : (u : UnitKind) → same_unit u u ≡ true
-same_unit_refl unit.I = refl
-same_unit_refl unit.M = refl
-same_unit_refl unit.L = refl
-same_unit_refl unit.P = refl
-same_unit_refl unit.B = refl
-
-same_number : (u v : UnitKind) → unit_number u ≡ unit_number v → same_unit u v ≡ true
-same_number unit.I unit.I e = refl
-same_number unit.M unit.M e = refl
-same_number unit.L unit.L e = refl
-same_number unit.P unit.P e = refl
-same_number unit.B unit.B e = refl
-same_number _ _ e = absurd (omega (arith, e))
-
-unit_below : (u : UnitKind) → unit_number u < 5
-unit_below unit.I = omega arith
-unit_below unit.M = omega arith
-unit_below unit.L = omega arith
-unit_below unit.P = omega arith
-unit_below unit.B = omega arith
 
 -- ---- the state
 

@@ -4,7 +4,7 @@ use Rattle.std.specs.Prelude.{nat_eq}
 use Rattle.serial_order.specs.Lists.{Among, EachOnce}
 use Rattle.list_sched.specs.Extremes.{IsLeast}
 use Rattle.machine_desc.specs.Issue.{keeps_busy}
-use Rattle.list_sched.proofs.Lists.{onto, among_left, among_onto}
+use Rattle.serial_order.proofs.Onto.{onto, among_left, among_onto}
 use Rattle.list_sched.proofs.Counts.{count_within}
 use Rattle.list_sched.specs.Schedule.{Problem, IsProblem, IsReady, IsNext, CanIssue, ArePlaced, busy}
 use Rattle.list_sched.proofs.Places.{placed_once}

@@ -1,5 +1,5 @@
 -- The serial order of a problem.
-use Rattle.std.proofs.Common.{◌≡◌, ◌≢◌, ℕ, ◌<◌, ◌&&◌, Bool, true, false, cond, List, Option, None, refl, sym, subst, ap, ◌∙◌}
+use Rattle.std.proofs.Common.{◌≡◌, ◌≢◌, ℕ, ◌<◌, ◌&&◌, Bool, true, false, cond, List, Option, None, refl}
 use Rattle.std.specs.Prelude.{◌↔◌, ℤ, Some, IsSome, is_some, nat_lt, slice_index_or, ◌+◌, ◌*◌}
 use Rattle.std.proofs.lemmas.Bool.{and_parts, ltb-true, false≢true}
 use Rattle.serial_order.specs.Lists.{Among, Earlier, EachOnce}

@@ -1,15 +1,14 @@
 -- Slots count the operations that took them.
-use Rattle.std.proofs.Common.{◌≡◌, ◌≢◌, ℕ, ◌+◌, ◌*◌, ◌<◌, ◌≤◌, Bool, cond, ◌&&◌, List, [], ◌∷◌, length, ◌⊎◌, inl, inr, refl, sym, ap, ◌∙◌, arith, get_or-set_other, get_or-set_same}
-use Rattle.std.specs.Prelude.{slice_index, slice_set, nat_eq, nat_le, nat_lt, replicate}
+use Rattle.std.proofs.Common.{◌≡◌, ℕ, ◌+◌, ◌*◌, ◌<◌, ◌≤◌, cond, List, [], ◌∷◌, length, inl, inr, sym, ap, ◌∙◌, arith, get_or-set_other, get_or-set_same}
+use Rattle.std.specs.Prelude.{slice_index, slice_set, nat_eq}
 use Rattle.std.specs.List.{count_by}
 use Rattle.std.proofs.lemmas.Bool.{cases_eq, ne_eqb, eq-eqb}
 use Rattle.std.proofs.lemmas.List.{length-set, length-replicate, get_or-replicate}
 use Rattle.operation.specs.declared.UnitKind.{UnitKind}
 use Rattle.operation.specs.Places.{unit_number}
 use Rattle.machine_desc.specs.Ranges.{unit_below}
-use Rattle.machine_desc.specs.Issue.{same_unit}
 use Rattle.list_sched.specs.Slots.{Slots, cycles, Taken, busy_in, empty, IsTaken, AreTaken, is_busy_in}
-use Rattle.list_sched.specs.Laws.{Counts, SlotsCount}
+use Rattle.list_sched.specs.Laws.{SlotsCount}
 use Rattle.list_sched.proofs.Counts.{count_cons}
 
 -- counts of both kinds, by cycle

@@ -6,6 +6,7 @@ use Rattle.std.specs.Option.{option_or}
 use Rattle.std.specs.declared.alloc.Global.{Global}
 use Rattle.std.proofs.lemmas.Bool.{or_parts, ltb-false, cases_lt}
 use Rattle.std.proofs.lemmas.List.FromFn.{get_or-map-range_with_len}
+use Rattle.tnk_base.proofs.Searches.{none_at}
 use Rattle.toml.specs.Data.{Members}
 use Rattle.toml.specs.View.{members_view}
 use Rattle.toml.specs.declared.value.Value.{Value}
@@ -42,20 +43,9 @@ pub names_of : (es : List (String Global × Value)) → names (members_view es) 
 names_of [] = refl
 names_of (e ∷ es) = ap (λ ns. string_bytes e.0 ∷ ns) (names_of es)
 
--- nothing found: no number passes
-find_none : (p : ℕ → Bool) (n a : ℕ) → find p (range_with_len a n) ≡ None → (i : ℕ) → i < n → p (a + i) ≡ false
-find_none p zero a h i below = absurd (omega arith)
-find_none p (suc n) a h i below = go (p a) refl h (find_none p n (a + 1)) i below
-  where
-    go : (b : Bool) → p a ≡ b → cond b (Some a) (find p (range_with_len (a + 1) n)) ≡ None →
-        (find p (range_with_len (a + 1) n) ≡ None → (i : ℕ) → i < n → p (a + 1 + i) ≡ false) → (i : ℕ) → i < suc n → p (a + i) ≡ false
-    go true e h ih i below = absurd (let k : ⊥ = cc in k)
-    go false e h ih zero below = let s : a + zero ≡ a = omega arith in ap p s ∙ e
-    go false e h ih (suc i) below = let s : a + suc i ≡ a + 1 + i = omega arith in ap p s ∙ ih h i (omega arith)
-
 -- the number at a key is in its range
 at_key : (m : Members) → AreInRange m → (n : ℕ) → n < 24 → is_out m n ≡ false
-at_key m h n below = let z : n ≡ 0 + n = omega arith in ap (is_out m) z ∙ find_none (is_out m) 24 0 h n below
+at_key m h n below = none_at (is_out m) 24 n h below
 
 -- a whole number from low to high, which is none below 0
 record IsWithin (low : ℕ) (z high : ℤ) : Type 0 where

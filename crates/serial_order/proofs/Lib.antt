@@ -7,3 +7,4 @@ pub mod Front
 pub mod Existence
 pub mod Progress
 pub mod Earlier
+pub mod Onto

@@ -2,38 +2,8 @@
 use Rattle.std.proofs.Common.{◌≡◌, ℕ, suc, ◌+◌, length, arith, List, [], ◌∷◌, ◌⊎◌, inl, inr, refl, sym, ap, subst}
 use Rattle.std.specs.Prelude.{slice_get}
 use Rattle.serial_order.specs.Lists.{Among, Earlier, EachOnce}
+use Rattle.serial_order.proofs.Onto.{onto, among_left, among_onto, earlier_onto, earlier_across}
 use Rattle.serial_order.proofs.Earlier.{earlier_left, never_both, distinct, which_earlier}
-
--- the reverse of a list, and then another
-abbrev pub onto : List ℕ → List ℕ → List ℕ
-onto [] ys = ys
-onto (x ∷ xs) ys = onto xs (x ∷ ys)
-
-pub among_right : (past rest : List ℕ) (i : ℕ) → Among i rest → Among i (onto past rest)
-among_right [] rest i h = h
-among_right (x ∷ xs) rest i h = among_right xs (x ∷ rest) i (inr h)
-
-pub among_left : (past rest : List ℕ) (i : ℕ) → Among i past → Among i (onto past rest)
-among_left [] rest i h = elim h [ ]
-among_left (x ∷ xs) rest i (inl e) = among_right xs (x ∷ rest) i (inl e)
-among_left (x ∷ xs) rest i (inr h) = among_left xs (x ∷ rest) i h
-
-pub among_onto : (past rest : List ℕ) (i : ℕ) → Among i (onto past rest) → Among i past ⊎ Among i rest
-among_onto [] rest i h = inr h
-among_onto (x ∷ xs) rest i h = elim (among_onto xs (x ∷ rest) i h) [
-  | inl a ↦ inl (inr a)
-  | inr (inl e) ↦ inl (inl e)
-  | inr (inr a) ↦ inr a
-]
-
-pub earlier_onto : (past rest : List ℕ) (i j : ℕ) → Earlier rest i j → Earlier (onto past rest) i j
-earlier_onto [] rest i j h = h
-earlier_onto (x ∷ xs) rest i j h = earlier_onto xs (x ∷ rest) i j (inr h)
-
-pub earlier_across : (past rest : List ℕ) (i j : ℕ) → Among i past → Among j rest → Earlier (onto past rest) i j
-earlier_across [] rest i j a h = elim a [ ]
-earlier_across (x ∷ xs) rest i j (inl e) h = earlier_onto xs (x ∷ rest) i j (inl (e, h))
-earlier_across (x ∷ xs) rest i j (inr a) h = earlier_across xs (x ∷ rest) i j a (inr h)
 
 earlier_turn : (past rest : List ℕ) (i j : ℕ) → Earlier past i j → Earlier (onto past rest) j i
 earlier_turn [] rest i j h = elim h [ ]

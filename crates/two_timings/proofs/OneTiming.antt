@@ -21,7 +21,8 @@ use Rattle.serial_order.proofs.Members.{earlier_right, among_filter, filter_amon
 use Rattle.two_timings.specs.Timing.{Timing, HasOneBranch, lands}
 use Rattle.two_timings.specs.Law.{IsTimingOf}
 use Rattle.serial_order.proofs.Earlier.{earlier_left, never_both, distinct, which_earlier, filter_earlier, filter_same}
-use Rattle.two_timings.proofs.Fronts.{onto, among_left, onto_back, front_among, front_turn, front_once, front_back, Stand, past_before, before_or_after, before_past}
+use Rattle.serial_order.proofs.Onto.{onto, among_left}
+use Rattle.two_timings.proofs.Fronts.{onto_back, front_among, front_turn, front_once, front_back, Stand, past_before, before_or_after, before_past}
 use Rattle.two_timings.proofs.Ordered.{both_trap, both_take}
 use Rattle.two_timings.proofs.Effects.{own, place_of}
 use Rattle.two_timings.proofs.Acts.{IsActOf, act_written, act_put, act_taken, act_answer, acts_together, no_trap_no_outb}

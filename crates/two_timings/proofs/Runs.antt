@@ -9,7 +9,8 @@ use Rattle.timed_meaning.specs.Values.{value_at}
 use Rattle.timed_meaning.specs.Block.{Start, Progress, Act, Ran, Through, Stopped, fresh, act, operands, issued, run}
 use Rattle.serial_order.specs.Lists.{Among, EachOnce}
 use Rattle.two_timings.specs.Timing.{Timing, timed, lands}
-use Rattle.two_timings.proofs.Fronts.{onto, Stand}
+use Rattle.serial_order.proofs.Onto.{onto}
+use Rattle.two_timings.proofs.Fronts.{Stand}
 use Rattle.two_timings.proofs.Acts.{IsActOf}
 use Rattle.two_timings.proofs.Folds.{folded, put_out, take_in, answer_by}
 use Rattle.two_timings.proofs.Values.{gathered}

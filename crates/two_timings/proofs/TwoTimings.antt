@@ -17,7 +17,8 @@ use Rattle.serial_order.specs.Lists.{Among, Earlier}
 use Rattle.two_timings.specs.Timing.{HasOneBranch, timed, timed_ops}
 use Rattle.two_timings.specs.Law.{EndsAlike, TimingsThatAgreeDoTheSame}
 use Rattle.serial_order.proofs.Earlier.{which_earlier}
-use Rattle.two_timings.proofs.Fronts.{onto, among_onto, among_right, front_among, Stand, stand, before_past, onto_at}
+use Rattle.serial_order.proofs.Onto.{onto, among_onto, among_right}
+use Rattle.two_timings.proofs.Fronts.{front_among, Stand, stand, before_past, onto_at}
 use Rattle.two_timings.proofs.Effects.{place_of}
 use Rattle.two_timings.proofs.Acts.{act_trap, act_local, outb_traps}
 use Rattle.two_timings.proofs.Folds.{folded, put_out, take_in, answer_by, leave_at, folded_equal}

@@ -5,7 +5,7 @@ use Rattle.std.specs.Prelude.{pos, slice_index}
 use Rattle.std.proofs.lemmas.Bool.{cases_eq}
 use Rattle.serial_order.specs.Lists.{Among}
 use Rattle.list_sched.specs.Extremes.{IsGreatest}
-use Rattle.list_sched.proofs.Lists.{onto}
+use Rattle.serial_order.proofs.Onto.{onto}
 use Rattle.list_sched.specs.Schedule.{Climb}
 use Rattle.list_sched.proofs.Exists.{heights_step}
 use Rattle.list_sched.specs.Given.{problem_of}

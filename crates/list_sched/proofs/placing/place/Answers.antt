@@ -13,7 +13,7 @@ use Rattle.list_sched.specs.Slots.{HasRoomFor}
 use Rattle.list_sched.specs.Steps.{IsFirstFree}
 use Rattle.list_sched.proofs.Climbs.{latency_at, busy_at, unit_at}
 use Rattle.list_sched.proofs.Frees.{some_free}
-use Rattle.list_sched.proofs.Plans.{IsPlan, IsStart, IsRoom, busy_time, first_free, one_free, room_on, early, room_there, next_state, done}
+use Rattle.list_sched.proofs.Plans.{IsStart, IsRoom, busy_time, first_free, one_free, room_on, early, room_there, next_state, done}
 use Rattle.list_sched.proofs.placing.place.Goals as goal
 use Rattle.list_sched.proofs.placing.place.Goals.{After-first_room-c}
 use Rattle.list_sched.proofs.placing.place.Given.{Over}

@@ -1,4 +1,4 @@
-use Rattle.std.proofs.Common.{◌≡◌, ◌<◌, ◌≤◌, ◌+◌, ◌*◌, ℕ, slice_index}
+use Rattle.std.proofs.Common.{◌≡◌, ◌≤◌, ◌+◌, ◌*◌, ℕ, slice_index}
 use Rattle.operation.specs.Places.{unit_number}
 use Rattle.list_sched.specs.Slots.{IsBusier}
 use Rattle.list_sched.proofs.slots.keep_busy.Given as goal
