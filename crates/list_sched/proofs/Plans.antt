@@ -50,8 +50,8 @@ pub record IsPlan (d : Table) (kinds : List (UnitKind × LatKind)) (g : Descript
   pub small : (k : ℕ) → slice_index cycle k ≤ 16384
   pub schedule : ArePlaced (problem_of d kinds g) h (slice_index cycle) [] order
   pub soon : (k : ℕ) → Among k order → slice_index cycle k + 32 ≤ 32 * length order
-  pub size : cycle_count slots ≡ 32 * d.count
-  pub size_busy : length slots.busy ≡ 160 * d.count
+  pub size : 32 * d.count ≤ cycle_count slots
+  pub size_busy : 160 * d.count ≤ length slots.busy
   pub all : (c : ℕ) → c < 32 * d.count → slice_index slots.issued c ≡ issuing (slice_index cycle) order c
   pub each : (c : ℕ) (u : UnitKind) → c < 32 * d.count → busy_in slots c u ≡ busy_on (unit_in kinds) u (slice_index cycle) (busy_time kinds g) order c
   pub lands : (k : ℕ) → Among k order → slice_index cycle k + latency_of g (kind_in kinds k) ≤ end
@@ -225,8 +225,8 @@ module _ (d : Table) (kinds : List (UnitKind × LatKind)) (g : Description) (hei
           small = small';
           schedule = placed_step p ok (slice_index heights) at at' order i c others here s.schedule next can_issue;
           soon = soon_step p ok (slice_index heights) at at' order i c others here next.ready.unplaced high s.soon;
-          size = ap length taken.issued ∙ (length-set issued c (slice_index issued c + 1) ∙ s.size);
-          size_busy = taken.size ∙ s.size_busy;
+          size = let same = ap length taken.issued ∙ length-set issued c (slice_index issued c + 1) in let z = s.size in omega arith;
+          size_busy = let same = taken.size in let z = s.size_busy in omega arith;
           all = all';
           each = each';
           lands = λ k a. elim (cases_eq k i) [
@@ -271,17 +271,17 @@ pub no_plan : (d : Table) (kinds : List (UnitKind × LatKind)) (g : Description)
     length waits ≡ d.count → ((j : ℕ) → j < d.count → slice_index waits j ≡ unplaced_before (before d) [] j d.count) →
     length placed ≡ d.count → ((j : ℕ) → j < d.count → slice_index_or placed j true ≡ false) →
     length cycle ≡ d.count → ((k : ℕ) → slice_index cycle k ≡ 0) →
-    slots ≡ empty (32 * d.count) → IsPlan d kinds g h waits placed [] cycle slots 0
-no_plan d kinds g h waits placed cycle slots a b e f cs cz none = record {
+    (m : ℕ) → 32 * d.count ≤ m → slots ≡ empty m → IsPlan d kinds g h waits placed [] cycle slots 0
+no_plan d kinds g h waits placed cycle slots a b e f cs cz m there none = record {
   progress = record { counts_size = a; marks_size = e; counted = b; marked = f; front = front_none (before d) d.count };
   cycles = cs;
   small = λ k. let z = cz k in omega arith;
   schedule = tt;
   soon = λ k m. elim m [ ];
-  size = ap cycle_count none ∙ length-replicate (32 * d.count) 0;
-  size_busy = ap (λ (t : Slots). length t.busy) none ∙ (length-replicate (32 * d.count * 5) 0 ∙ (omega arith));
-  all = λ c lt. ap (λ (t : Slots). slice_index t.issued c) none ∙ zeros (32 * d.count) c lt;
-  each = λ c u lt. ap (λ (t : Slots). busy_in t c u) none ∙ zeros (32 * d.count * 5) (c * 5 + unit_number u) (let b = unit_below u in omega arith);
+  size = let same = ap cycle_count none ∙ length-replicate m 0 in omega arith;
+  size_busy = let same = ap (λ (t : Slots). length t.busy) none ∙ length-replicate (m * 5) 0 in omega arith;
+  all = λ c lt. ap (λ (t : Slots). slice_index t.issued c) none ∙ zeros m c (omega arith);
+  each = λ c u lt. ap (λ (t : Slots). busy_in t c u) none ∙ zeros (m * 5) (c * 5 + unit_number u) (let b = unit_below u in omega arith);
   lands = λ k m. elim m [ ];
   reached = inl refl;
 }

@@ -14,5 +14,5 @@ mod scheduling;
 mod slots;
 mod waits;
 
-pub use scheduling::{Planned, schedule};
+pub use scheduling::{Planned, Planner, schedule};
 pub use slots::SlotTable;

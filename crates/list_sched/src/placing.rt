@@ -1,24 +1,21 @@
 // Placing one operation after another.
-ghost use Rattle.std.specs.Prelude.{◌≡◌, ◌<◌, ◌≤◌, ◌^◌, ◌+◌, ◌*◌, ℕ, length, slice_index, IfOk, Some, ◌⊎◌, ℤ, pos, ◌+ℤ◌, ◌≤ℤ◌};
+ghost use Rattle.std.specs.Prelude.{◌≡◌, ◌<◌, ◌≤◌, ◌^◌, ◌+◌, ◌*◌, ℕ, length, slice_index, [], ◌∷◌, ◌++◌, vec_capacity, Some, ◌⊎◌, ℤ, pos, ◌+ℤ◌, ◌≤ℤ◌};
 ghost use Rattle.operation.specs.declared.UnitKind.TheVariants as unit;
 ghost use Rattle.serial_order.specs.Table.{delay_of, before};
 ghost use Rattle.list_sched.specs.Schedule.{IsProblem, IsSchedule, AreHeights};
 ghost use Rattle.list_sched.specs.Given.{problem_of, unit_in, kind_in};
-ghost use Rattle.list_sched.specs.Planned.{schedule_of};
+ghost use Rattle.list_sched.specs.Planned.{schedule_with};
 ghost use Rattle.machine_desc.specs.Description.{latency_of, busy_of};
 ghost use Rattle.list_sched.specs.Slots.{cycles, HasRoomFor};
 ghost use Rattle.list_sched.specs.Steps.{IsAllowed};
 
 use crate::height::climbed;
 use crate::ready::find_next;
-use crate::scheduling::Planned;
 use crate::slots::SlotTable;
 use crate::waits::{count_all, count_off};
 use machine_desc::Generation;
 use operation::{LatKind, UnitKind};
 use serial_order::Delays;
-use std::alloc::Global;
-use tnk_base::NoMemory;
 
 /// The least cycle that the delays from what is placed allow.
 fn earliest(d: &Delays, cycle: &[u32], i: u16) -> u32
@@ -71,6 +68,17 @@ fn start<G: Generation>(
     }
 }
 
+/// Adds an operation to a list that has room for it.
+fn add(order: &mut Vec<u16>, i: u16)
+    requires { length order.old.items < vec_capacity order.old }
+    ensures items { order.new.items ≡ order.old.items ++ i ∷ [] }
+    ensures room { vec_capacity order.old ≤ vec_capacity order.new }
+{
+    if order.push(i).is_err() {
+        unreachable!()
+    }
+}
+
 /// The first cycle from one on that has room, or the last one.
 fn first_room<G: Generation>(
     slots: &SlotTable,
@@ -95,48 +103,50 @@ fn first_room<G: Generation>(
     last
 }
 
-/// The greater of two numbers.
-fn greater(a: u32, b: u32) -> u32
-    ensures first { a ≤ result }
-    ensures second { b ≤ result }
-    ensures one { (result ≡ a) ⊎ (result ≡ b) }
-{
-    if a < b { b } else { a }
-}
-
-/// The list schedule by the heights.
+/// Places all operations by their heights: writes their cycles, the order of placing and the slots that are taken, and answers
+/// the end. The list has room for all operations, and `waits` and `placed` have a place for each, to work in.
 pub(crate) fn place<G: Generation>(
-    alloc: Global,
     d: &Delays,
     kinds: &[(UnitKind, LatKind)],
     g: &G,
     heights: &[u32],
-) -> Result<Planned, NoMemory>
+    waits: &mut [u16],
+    placed: &mut [bool],
+    cycle: &mut [u32],
+    order: &mut Vec<u16>,
+    slots: &mut SlotTable,
+) -> u32
     requires count { length kinds.now ≡ d.now.count }
     requires heights { length heights.now ≡ d.now.count }
     requires problem { IsProblem (problem_of d.now kinds.now (G.description g.now)) }
     requires high { AreHeights (problem_of d.now kinds.now (G.description g.now)) (slice_index heights.now) }
-    ensures schedule { IfOk result (λ s. IsSchedule (problem_of d.now kinds.now (G.description g.now)) (schedule_of s)) }
-    ensures cycles { IfOk result (λ s. length s.cycle.items ≡ d.now.count) }
+    requires waits { length waits.old ≡ d.now.count }
+    requires placed { length placed.old ≡ d.now.count }
+    requires cycle { length cycle.old ≡ d.now.count }
+    requires room { d.now.count ≤ vec_capacity order.old }
+    requires slots { 32 * d.now.count ≤ cycles slots.old }
+    ensures schedule { IsSchedule (problem_of d.now kinds.now (G.description g.now)) (schedule_with order.new.items cycle.new result) }
+    ensures room { vec_capacity order.old ≤ vec_capacity order.new }
+    ensures cycles { length cycle.new ≡ d.now.count }
+    ensures slots { cycles slots.new ≡ cycles slots.old }
 {
-    let n = d.count() as usize;
-    let mut cycle = vec![in alloc; 0u32; n]?;
-    let mut order: Vec<u16> = Vec::with_capacity(alloc, n)?;
-    let mut waits = count_all(alloc, d)?;
-    let mut placed = vec![in alloc; false; n]?;
-    let mut slots = SlotTable::new(alloc, 32 * d.count() as u32)?;
-    let mut end = 0u32;
-    for step in 0..n as u32 {
-        let i = find_next(kinds, heights, &waits, &placed);
+    count_all(d, waits);
+    placed.fill(false);
+    cycle.fill(0);
+    order.clear();
+    slots.clear();
+    let mut end = 0;
+    for step in 0..d.count() as u32 {
+        let i = find_next(kinds, heights, waits, placed);
         let (unit, kind) = kinds[i as usize];
-        let from = start(d, kinds, g, &cycle, end, i);
-        let c = first_room(&slots, g, unit, kind, from, 32 * step);
+        let from = start(d, kinds, g, cycle, end, i);
+        let c = first_room(slots, g, unit, kind, from, 32 * step);
         slots.take(g, c, unit, kind);
-        count_off(d, i, &mut waits);
+        count_off(d, i, waits);
         placed[i as usize] = true;
         cycle[i as usize] = c;
-        order.push(i)?;
-        end = greater(end, c + g.latency(kind) as u32);
+        add(order, i);
+        end = end.max(c + g.latency(kind) as u32);
     }
-    Ok(Planned { cycle, order, end })
+    end
 }

@@ -9,5 +9,5 @@ pub mod laws;
 mod serial;
 mod table;
 
-pub use serial::{OrderFault, order};
+pub use serial::{OrderFault, order, order_into};
 pub use table::Delays;

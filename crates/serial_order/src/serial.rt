@@ -1,5 +1,5 @@
 // Serial orders, by placing one operation after another.
-ghost use Rattle.std.specs.Prelude.{◌≡◌, ◌<◌, ◌≤◌, ◌+◌, ℕ, Bool, true, false, [], IsTrue, IfOk, IfSome, IfNone, MatchResult, None, length, slice_index, slice_index_or};
+ghost use Rattle.std.specs.Prelude.{◌≡◌, ◌<◌, ◌≤◌, ◌+◌, ℕ, Bool, true, false, [], ◌∷◌, ◌++◌, IsTrue, IfOk, IfSome, IfNone, MatchResult, None, length, slice_index, slice_index_or, vec_capacity};
 ghost use Rattle.serial_order.specs.Table.{before};
 ghost use Rattle.serial_order.specs.SerialOrder.{IsOrder, first_stuck, IsFirstStuck};
 ghost use Rattle.serial_order.specs.Counts.{one_where, unplaced_before};
@@ -62,17 +62,18 @@ fn count_off(d: &Delays, i: u16, waits: &mut [u16])
     }
 }
 
-/// For each operation how many are before it.
-fn count_all(alloc: Global, d: &Delays) -> Result<Vec<u16>, AllocError>
-    ensures length { IfOk result (λ waits. length waits.items ≡ d.now.count) }
-    ensures counts { IfOk result (λ waits. (j : ℕ) → j < d.now.count → slice_index waits.items j ≡ unplaced_before
-        (before d.now) [] j d.now.count) }
+/// Counts for each operation how many are before it.
+fn count_all(d: &Delays, waits: &mut [u16])
+    requires { length waits.old ≡ d.now.count }
+    ensures few { d.now.count ≤ 512 }
+    ensures size { length waits.new ≡ d.now.count }
+    ensures counts { (j : ℕ) → j < d.now.count → slice_index waits.new j ≡ unplaced_before
+        (before d.now) [] j d.now.count }
 {
-    let mut waits = vec![in alloc; 0u16; d.count() as usize]?;
+    waits.fill(0);
     for i in 0..d.count() {
-        count_on(d, i, &mut waits);
+        count_on(d, i, waits);
     }
-    Ok(waits)
 }
 
 /// The least operation that isn't placed and doesn't wait for another.
@@ -107,25 +108,59 @@ fn first_left(placed: &[bool]) -> Option<u16>
     None
 }
 
+/// Adds an operation to a list that has room for it.
+fn add(order: &mut Vec<u16>, i: u16)
+    requires { length order.old.items < vec_capacity order.old }
+    ensures items { order.new.items ≡ order.old.items ++ i ∷ [] }
+    ensures room { vec_capacity order.old ≤ vec_capacity order.new }
+{
+    if order.push(i).is_err() {
+        unreachable!()
+    }
+}
+
+/// Makes a list that of all operations, each once, in which i stands earlier than j wherever i is before j; or answers the
+/// least of those that can't be placed, each for another of them. It takes no memory: the list has room for all operations,
+/// and `waits` and `placed` have a place for each, to work in.
+///
+/// Of the operations that can come next it takes the least; a table over n operations is read some 2 n^2 times.
+pub fn order_into(
+    d: &Delays,
+    waits: &mut [u16],
+    placed: &mut [bool],
+    order: &mut Vec<u16>,
+) -> Option<u16>
+    requires waits { length waits.old ≡ d.now.count }
+    requires placed { length placed.old ≡ d.now.count }
+    requires room { d.now.count ≤ vec_capacity order.old }
+    ensures order { IfNone result (IsOrder (before d.now) d.now.count order.new.items) }
+    ensures stuck { result ≡ first_stuck (before d.now) d.now.count }
+    ensures room { vec_capacity order.old ≤ vec_capacity order.new }
+{
+    count_all(d, waits);
+    placed.fill(false);
+    order.clear();
+    while let Some(i) = next_free(waits, placed) {
+        count_off(d, i, waits);
+        placed[i as usize] = true;
+        add(order, i);
+    }
+    first_left(placed)
+}
+
 /// A list of all operations, each once, in which i stands earlier than j wherever i is before j.
 ///
-/// Of the operations that can come next it takes the least; a table over n operations is read some 2 n^2 times. A `Cycle`
-/// comes exactly where some operations can't be placed, each for another of them: it names the least of these.
+/// A `Cycle` comes exactly where some operations can't be placed, each for another of them: it names the least of these.
 pub fn order(alloc: Global, d: &Delays) -> Result<Vec<u16>, OrderFault>
     ensures order { IfOk result (λ order. IsOrder (before d.now) d.now.count order.items) }
     ensures stuck { MatchResult result (λ _. first_stuck (before d.now) d.now.count ≡ None)
         (IsFirstStuck (before d.now) d.now.count) }
 {
     let n = d.count() as usize;
-    let mut waits = count_all(alloc, d)?;
+    let mut waits = vec![in alloc; 0; n]?;
     let mut placed = vec![in alloc; false; n]?;
-    let mut order: Vec<u16> = Vec::with_capacity(alloc, n)?;
-    while let Some(i) = next_free(&waits, &placed) {
-        count_off(d, i, &mut waits);
-        placed[i as usize] = true;
-        order.push(i)?;
-    }
-    match first_left(&placed) {
+    let mut order = Vec::with_capacity(alloc, n)?;
+    match order_into(d, &mut waits, &mut placed, &mut order) {
         Some(i) => Err(OrderFault::Cycle(i)),
         None => Ok(order),
     }

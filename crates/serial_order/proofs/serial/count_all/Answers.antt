@@ -1,6 +1,5 @@
 use Rattle.std.proofs.Common.{◌≡◌, ◌+◌, [], length, slice_index, sym, ap, ◌∙◌, arith, rules}
 use Rattle.std.proofs.lemmas.Grind.{common_steps}
-use Rattle.std.proofs.lemmas.List.{with_items_is}
 use Rattle.serial_order.specs.Table.{before}
 use Rattle.serial_order.specs.Counts.{one_where, unplaced_before}
 use Rattle.serial_order.proofs.Counting.{count_none, count_more, count_most}
@@ -10,23 +9,20 @@ pub loop-i-init : goal.loop-i-init
 loop-i-init c = record {
   size = search rules;
   counts = λ j lt.
-      let e : slice_index c.in_ok-waits.waits.items j ≡ 0 = grind (arith, common_steps) in
+      let e : slice_index c.fill.new.self j ≡ 0 = grind (arith, common_steps) in
       e ∙ sym (count_none (before c.args.d.now) [] j);
 }
 
 pub count_on-requires-clause-small : goal.count_on-requires-clause-small
 count_on-requires-clause-small c = λ j lt.
-    let e : slice_index c.deref_mut.result.now j ≡ unplaced_before (before c.args.d.now) [] j c.loop-i.i =
-    ap (λ list. slice_index list j) c.deref_mut.ensures.value ∙ c.loop-i.invariant.counts j lt in
+    let e = c.loop-i.invariant.counts j lt in
     omega (arith, count_most (before c.args.d.now) [] j c.loop-i.i)
 
 pub loop-i-preserved : goal.loop-i-preserved
-loop-i-preserved c =
-    rw (with_items_is c.loop-i.waits c.count_on.new.waits (c.count_on.auto.waits ∙ c.deref_mut.ensures.len))
-    (record {
-      size = c.count_on.auto.waits ∙ ap length c.deref_mut.ensures.value ∙ c.loop-i.invariant.size;
-      counts = λ j lt.
-          let e : slice_index c.deref_mut.result.now j ≡ unplaced_before (before c.args.d.now) [] j c.loop-i.i =
-          ap (λ list. slice_index list j) c.deref_mut.ensures.value ∙ c.loop-i.invariant.counts j lt in
-          c.count_on.ensures j lt ∙ ap (λ n. n + one_where (before c.args.d.now c.loop-i.i j)) e ∙ sym (count_more (before c.args.d.now) j c.loop-i.i);
-    })
+loop-i-preserved c = record {
+  size = c.count_on.auto.waits ∙ c.loop-i.invariant.size;
+  counts = λ j lt.
+      c.count_on.ensures j lt
+      ∙ ap (λ n. n + one_where (before c.args.d.now c.loop-i.i j)) (c.loop-i.invariant.counts j lt)
+      ∙ sym (count_more (before c.args.d.now) j c.loop-i.i);
+}

@@ -11,7 +11,7 @@ use Rattle.list_sched.proofs.Exists.{heights_step}
 use Rattle.list_sched.specs.Given.{problem_of}
 use Rattle.list_sched.proofs.Positions.{among_at}
 use Rattle.list_sched.proofs.Climbs.{serial_of, serial_length, split_onto, drop_at}
-use Rattle.list_sched.proofs.height.heights.Goals as goal
+use Rattle.list_sched.proofs.height.find_heights.Goals as goal
 
 other_kept : (xs : List ℕ) (i c k : ℕ) → k ≢ i → get_or (set xs i c) k 0 ≡ get_or xs k 0
 other_kept xs i c k ne = rw get_or-set_other
@@ -27,13 +27,12 @@ height_of-height-requires-clause-small g c k lt =
     let s = c.loop-k.invariant.small k lt in
     let l = serial_length (problem_of c.args.d.now c.args.kinds.now (g.G.Generation.description c.args.g.now)) c.args.order.now (serial_of (problem_of c.args.d.now c.args.kinds.now (g.G.Generation.description c.args.g.now)) c.requires.problem c.args.order.now c.requires.serial) in
     let f = c.requires.problem.few in
-    subst (λ m. slice_index m k < 1048576) (sym c.deref.ensures.value) (omega arith)
+    omega arith
 
-pub index_mut-requires : goal.index_mut-requires
-index_mut-requires g c =
+pub bounds-heights-i : goal.bounds-heights-i
+bounds-heights-i g c =
     let i = (c.requires.serial.complete _).0 (among_at c.args.order.now (c.loop-k.k - 1) (let t = c.loop-k-test.true in let a = c.loop-k.auto in omega arith)) in
     let s = c.loop-k.invariant.size in
-    let v = c.loop-k.heights.ok.0 in
     omega arith
 
 pub loop-k-preserved : goal.loop-k-preserved
@@ -41,16 +40,16 @@ loop-k-preserved g c =
     let order = c.args.order.now in
     let k = c.loop-k.k - 1 in
     let x = get_or order k 0 in
-    let xs = c.loop-k.heights.items in
+    let xs = c.loop-k.heights in
     let v = c.height_of-height.result in
     let lt : k < length order = (let t = c.loop-k-test.true in let a = c.loop-k.auto in omega arith) in
     let inside : x < c.args.d.now.count = (c.requires.serial.complete x).0 (among_at order k lt) in
     let size = c.loop-k.invariant.size in
     let bound : x < length xs = omega arith in
     let here : get_or (set xs x v) x 0 ≡ v = same_set xs x v bound in
-    let top : IsGreatest (Climb (problem_of c.args.d.now c.args.kinds.now (g.G.Generation.description c.args.g.now)) (slice_index xs) x) (pos v) = subst (λ m. IsGreatest (Climb (problem_of c.args.d.now c.args.kinds.now (g.G.Generation.description c.args.g.now)) (slice_index m) x) (pos v)) c.deref.ensures.value c.height_of-height.ensures.greatest in
+    let top : IsGreatest (Climb (problem_of c.args.d.now c.args.kinds.now (g.G.Generation.description c.args.g.now)) (slice_index xs) x) (pos v) = c.height_of-height.ensures.greatest in
     let next : suc k ≡ c.loop-k.k = (let t = c.loop-k-test.true in omega arith) in
-    let near : v ≤ (32 * length order - 32 * c.loop-k.k) + 32 = c.height_of-height.ensures.near (32 * length order - 32 * c.loop-k.k) (λ j l. subst (λ m. slice_index m j ≤ 32 * length order - 32 * c.loop-k.k) (sym c.deref.ensures.value) (let s = c.loop-k.invariant.small j l in omega arith)) in
+    let near : v ≤ (32 * length order - 32 * c.loop-k.k) + 32 = c.height_of-height.ensures.near (32 * length order - 32 * c.loop-k.k) (λ j l. let s = c.loop-k.invariant.small j l in omega arith) in
     record {
       size = omega (arith, length-set {A = ℕ});
       small = λ j l. elim (cases_eq j x) [
