@@ -1,12 +1,14 @@
 // List schedules of blocks under other generations. Cycles, orders and ends were worked out by hand from the rules.
-ghost use Rattle.std.specs.Prelude.{◌≡◌, ◌<◌, length};
+ghost use Rattle.std.specs.Prelude.{◌≡◌, ◌<◌, length, IsTrue};
 ghost use Rattle.std.specs.List.{list_all, range_with_len};
+ghost use Rattle.list_sched.specs.Given.{problem_of};
+ghost use Rattle.list_sched.specs.Schedule.{IsProblem};
 ghost use Rattle.calls.specs.Problems.{is_branch as is_branch_in, is_fit as is_fit_pair, are_fit as are_fit_pairs, have_units as have_units_of};
 
 use super::blocks::good_block;
 use super::descriptions::{BUSY, LONG, Numbers, T1, T2, T3, described};
 use latency_deps::{GoodBlock, delays};
-use list_sched::{Planned, schedule};
+use list_sched::{Planned, Planner, schedule};
 use machine_desc::Generation;
 use operation::{LatKind, UnitKind, lat_kind, unit};
 use serial_order::{Delays, order};
@@ -155,6 +157,25 @@ fn have_units<G: Generation>(kinds: &[(UnitKind, LatKind)], g: &G) -> bool
     kinds.iter().all(|k| g.units(k.0) > 0)
 }
 
+/// Whether the operations can be scheduled.
+fn is_problem<G: Generation>(
+    alloc: Global,
+    d: &Delays,
+    kinds: &[(UnitKind, LatKind)],
+    g: &G,
+) -> bool
+    ensures count { IsTrue result → length kinds.now ≡ d.now.count }
+    ensures problem { IsTrue result → IsProblem (problem_of d.now kinds.now (G.description g.now)) }
+{
+    if kinds.is_empty() || kinds.len() != d.count() as usize {
+        return false;
+    }
+    if !are_fit(d, kinds) || !have_units(kinds, g) {
+        return false;
+    }
+    order(alloc, d).is_ok()
+}
+
 /// The schedule, where the operations can be scheduled.
 fn scheduled<G: Generation>(
     alloc: Global,
@@ -162,17 +183,25 @@ fn scheduled<G: Generation>(
     kinds: &[(UnitKind, LatKind)],
     g: &G,
 ) -> Option<Planned> {
-    if kinds.is_empty()
-        || kinds.len() != d.count() as usize
-        || !are_fit(d, kinds)
-        || !have_units(kinds, g)
-    {
-        return None;
-    }
-    if order(alloc, d).is_err() {
+    if !is_problem(alloc, d, kinds, g) {
         return None;
     }
     schedule(alloc, d, kinds, g).ok()
+}
+
+/// Makes a planner's next schedule, where the operations can be scheduled.
+fn is_planned<G: Generation>(
+    alloc: Global,
+    planner: &mut Planner,
+    d: &Delays,
+    kinds: &[(UnitKind, LatKind)],
+    g: &G,
+) -> bool {
+    if !is_problem(alloc, d, kinds, g) {
+        return false;
+    }
+    planner.plan(d, kinds, g);
+    true
 }
 
 /// The kinds of a block's operations.
@@ -212,6 +241,38 @@ fn is_scheduled(alloc: Global, case: &Scheduled) -> bool {
 fn blocks_are_scheduled(rt: HostRuntime) {
     for (row, case) in SCHEDULED.iter().enumerate() {
         assert!(rt; is_scheduled(rt.alloc(), case), "row {row}");
+    }
+}
+
+/// Makes a planner's next schedule that of a block's words under another description.
+fn plan_under(
+    alloc: Global,
+    planner: &mut Planner,
+    own: &Numbers,
+    words: &[u64],
+    other: &Numbers,
+) -> Option<bool> {
+    let block = good_block(alloc, own, words)?;
+    let g = described(other)?;
+    let d = delays(alloc, &block, &g).ok()?;
+    Some(is_planned(alloc, planner, &d, &kinds_of(alloc, &block)?, &g))
+}
+
+fn has_planned(alloc: Global, planner: &mut Planner, case: &Scheduled) -> bool {
+    let (own, words, other, cycle, order, end) = *case;
+    plan_under(alloc, planner, &own, words, &other) == Some(true)
+        && planner.cycles() == cycle
+        && planner.order() == order
+        && planner.end() == end
+}
+
+/// Nothing of a schedule is left in the next one.
+#[test]
+fn one_planner_makes_all_schedules(rt: HostRuntime) {
+    let mut planner = Planner::new(rt.alloc()).expect(&rt, "there is memory");
+    assert!(rt; planner.order().is_empty() && planner.end() == 0);
+    for (row, case) in SCHEDULED.iter().enumerate() {
+        assert!(rt; has_planned(rt.alloc(), &mut planner, case), "row {row}");
     }
 }
 
