@@ -1,4 +1,4 @@
--- What the steps of the scheduler look for.
+-- What the steps of the scheduler look for. For contracts within the crate.
 use Rattle.std.specs.Prelude.{ℕ, ◌≡◌, ◌≢◌, ◌<◌, ◌≤◌, ◌⊎◌, nat_lt, if◌then◌else◌, true, false, Bool, List, length, slice_index, slice_index_or, Option, Some, None, ℤ, pos, ◌+ℤ◌, ◌≤ℤ◌}
 use Rattle.operation.specs.declared.UnitKind.{UnitKind}
 use Rattle.operation.specs.declared.UnitKind.TheVariants as unit

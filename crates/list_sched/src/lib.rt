@@ -1,9 +1,9 @@
 // List schedules: when each operation of a block issues on a machine, and in which order they are placed.
 //
 // It stands on `serial_order` for the table of delays and serial orders, and on `machine_desc` for widths, units, latencies
-// and busy times. What a schedule is stands in specs/Schedule.antt, and `schedule` promises just that. `laws` says what
-// holds of schedules (specs/Laws.antt): they keep every delay, and no cycle after the first is more than 32 behind the used
-// one before it.
+// and busy times. What a schedule is stands in specs/Schedule.antt, and `schedule` and `Planner::plan` promise just that;
+// a planner takes its memory once. `laws` says what holds of schedules (specs/Laws.antt): they keep every delay, and no cycle
+// after the first is more than 32 behind the used one before it.
 #![tactic(auto)]
 
 mod height;
