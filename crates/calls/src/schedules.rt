@@ -14,7 +14,8 @@ use operation::{LatKind, UnitKind, lat_kind, unit};
 use serial_order::{Delays, order};
 use std::alloc::Global;
 
-/// Words and the description that they are made for, another description, and under that the cycles, the order of placing and the end.
+/// Words and the description that they are made for, another description, and under that the cycles, the order of placing and
+/// the end.
 type Scheduled = (
     Numbers,
     &'static [u64],

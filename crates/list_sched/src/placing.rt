@@ -51,7 +51,9 @@ fn start<G: Generation>(
     requires small { (k : ℕ) → k < d.now.count → slice_index cycle.now k < 2 ^ 20 }
     ensures allowed { IsAllowed d.now cycle.now i result }
     ensures last { unit_in kinds.now i ≡ unit.B → end ≤ result + latency_of (G.description g.now) (kind_in kinds.now i) }
-    ensures least { (c : ℕ) → IsAllowed d.now cycle.now i c → (unit_in kinds.now i ≡ unit.B → end ≤ c + latency_of (G.description g.now) (kind_in kinds.now i)) → result ≤ c }
+    ensures least { (c : ℕ) → IsAllowed d.now cycle.now i c →
+        (unit_in kinds.now i ≡ unit.B → end ≤ c + latency_of (G.description g.now) (kind_in kinds.now i)) →
+        result ≤ c }
 {
     let first = earliest(d, cycle, i);
     let (unit, kind) = kinds[i as usize];
@@ -125,7 +127,8 @@ pub(crate) fn place<G: Generation>(
     requires cycle { length cycle.old ≡ d.now.count }
     requires room { d.now.count ≤ vec_capacity order.old }
     requires slots { 32 * d.now.count ≤ cycles slots.old }
-    ensures schedule { IsSchedule (problem_of d.now kinds.now (G.description g.now)) (schedule_with order.new.items cycle.new result) }
+    ensures schedule { IsSchedule (problem_of d.now kinds.now (G.description g.now))
+        (schedule_with order.new.items cycle.new result) }
     ensures room { vec_capacity order.old ≤ vec_capacity order.new }
     ensures cycles { length cycle.new ≡ d.now.count }
     ensures slots { cycles slots.new ≡ cycles slots.old }

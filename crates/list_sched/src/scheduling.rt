@@ -34,7 +34,8 @@ impl Model for Planner {
 
     ghost view = { λ p. record { order = p.order.items; cycles = p.cycle.items; end = p.end } };
 
-    ghost invariant = { λ p. HasRoom p.slots (vec_capacity p.heights) (vec_capacity p.waits) (vec_capacity p.placed) (vec_capacity p.cycle) (vec_capacity p.order) };
+    ghost invariant = { λ p. HasRoom p.slots (vec_capacity p.heights) (vec_capacity p.waits)
+        (vec_capacity p.placed) (vec_capacity p.cycle) (vec_capacity p.order) };
 }
 
 /// Makes a list that has room for it so many times the value.
@@ -72,7 +73,8 @@ impl Planner {
     pub fn plan<G: Generation>(&mut self, d: &Delays, kinds: &[(UnitKind, LatKind)], g: &G)
         requires count { length kinds.now ≡ d.now.count }
         requires problem { IsProblem (problem_of d.now kinds.now (G.description g.now)) }
-        ensures schedule { IsSchedule (problem_of d.now kinds.now (G.description g.now)) (schedule_with self.new.order self.new.cycles self.new.end) }
+        ensures schedule { IsSchedule (problem_of d.now kinds.now (G.description g.now))
+            (schedule_with self.new.order self.new.cycles self.new.end) }
         ensures cycles { length self.new.cycles ≡ d.now.count }
     {
         refill(&mut self.heights, 0, d.count());

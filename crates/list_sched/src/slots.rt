@@ -35,7 +35,8 @@ fn slot(cycle: u32, k: UnitKind) -> usize
 /// Whether less than all units of the kind are busy in each of some cycles.
 fn are_free<G: Generation>(busy: &[u8], g: &G, k: UnitKind, from: u32, before: u32) -> bool
     requires inside { before * 5 ≤ length busy.now }
-    ensures { IsTrue result ↔ ((t : ℕ) → from ≤ t → t < before → slice_index busy.now (t * 5 + unit_number k) < units_of (G.description g.now) k) }
+    ensures { IsTrue result ↔ ((t : ℕ) → from ≤ t → t < before →
+        slice_index busy.now (t * 5 + unit_number k) < units_of (G.description g.now) k) }
 {
     for t in from..before {
         if busy[slot(t, k)] >= g.units(k) {
