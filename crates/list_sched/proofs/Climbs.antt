@@ -1,8 +1,6 @@
 -- The steps of the heights.
-use Rattle.std.proofs.Common.{◌≡◌, ℕ, suc, ◌+◌, ◌<◌, ◌≤◌, List, [], ◌∷◌, ◌++◌, length, get_or, take, drop, ◌⊎◌, inl, inr, refl, sym, ap, subst, ◌∙◌, arith, Some}
-use Rattle.std.specs.Prelude.{ℤ, pos, ◌+ℤ◌, ◌≤ℤ◌}
-use Rattle.std.proofs.lemmas.Int.{ints}
-use Rattle.std.proofs.lemmas.Bool.{cases_lt}
+use Rattle.std.proofs.Common.{◌≡◌, ℕ, suc, ◌<◌, ◌≤◌, List, [], ◌∷◌, ◌++◌, length, get_or, take, drop, refl, sym, ap, ◌∙◌, arith, Some}
+use Rattle.std.specs.Prelude.{ℤ}
 use Rattle.serial_order.specs.Table.{Table, delay_of}
 use Rattle.serial_order.specs.SerialOrder.{IsOrder}
 use Rattle.std.proofs.Math.Seq.{split_at, drop-cons}
@@ -14,7 +12,7 @@ use Rattle.operation.specs.declared.LatKind.TheVariants as lat
 use Rattle.machine_desc.specs.Description.{Description, latency_of, busy_of}
 use Rattle.list_sched.specs.Given.{unit_in, kind_in}
 use Rattle.serial_order.proofs.Onto.{onto}
-use Rattle.list_sched.specs.Schedule.{Problem, IsProblem, is_before, Climb, From}
+use Rattle.list_sched.specs.Schedule.{Problem, IsProblem, is_before}
 use Rattle.list_sched.proofs.Serial.{IsSerial, in_table, both_inside}
 use Rattle.list_sched.proofs.Places.{has_delay}
 use Rattle.list_sched.proofs.Outs.{below, lt_below}
@@ -27,24 +25,6 @@ latency_at g kinds i n d there e = e ∙ ap (λ (x : UnitKind × LatKind). (late
 
 pub unit_at : (kinds : List (UnitKind × LatKind)) (i : ℕ) (d : UnitKind × LatKind) → i < length kinds → (get_or kinds i d).0 ≡ unit_in kinds i
 unit_at kinds i d there = ap (λ (x : UnitKind × LatKind). x.0) (get_or_default kinds i d (unit.B, lat.Branch) there)
-
-same_some : (a b : ℤ) → Some a ≡ Some b → a ≡ b
-same_some a b e = cc
-
-module _ (p : Problem) (h : ℕ → ℕ) (i j old new : ℕ) (d : ℤ) (has : p.delay i j ≡ Some d) (kept : old ≤ new) (above : (d +ℤ pos (h j)) ≤ℤ pos new) (one : (new ≡ old) ⊎ (pos new ≡ d +ℤ pos (h j))) where
-  pub later_more : ((k : ℕ) (e : ℤ) → k < j → p.delay i k ≡ Some e → (e +ℤ pos (h k)) ≤ℤ pos old) → (k : ℕ) (e : ℤ) → k < j + 1 → p.delay i k ≡ Some e → (e +ℤ pos (h k)) ≤ℤ pos new
-  later_more f k e lt q = elim (cases_lt k j) [
-    | inl l ↦ (let r = f k e l q in omega (arith, ints))
-    | inr l ↦ (let same : j ≡ k = (let m : j ≤ k = l in omega arith) in
-        let s = same_some d e (sym has ∙ subst (λ n. p.delay i n ≡ Some e) (sym same) q) in
-        subst (λ n. (e +ℤ pos (h n)) ≤ℤ pos new) same (subst (λ z. (z +ℤ pos (h j)) ≤ℤ pos new) s above))
-  ]
-
-  pub holds_more : Climb p h i (pos old) → Climb p h i (pos new)
-  holds_more c = elim one [ inl e ↦ subst (λ n. Climb p h i (pos n)) (sym e) c | inr e ↦ subst (Climb p h i) (sym e) (From j d has) ]
-
-  pub near_more : (b : ℕ) → d ≤ℤ pos 32 → h j ≤ b → old ≤ b + 32 → new ≤ b + 32
-  near_more b most l o = elim one [ inl e ↦ omega arith | inr e ↦ omega (arith, ints) ]
 
 -- a delay is of operations inside
 pub delay_inside : (d : Table) (i j : ℕ) (x : ℤ) → delay_of d i j ≡ Some x → (i < d.count) × (j < d.count)
@@ -70,21 +50,6 @@ split_onto order k lt = split_at order k 0 lt ∙ sym (append_onto (take k order
 
 pub drop_at : (order : List ℕ) (k : ℕ) → k < length order → drop k order ≡ get_or order k 0 ∷ drop (suc k) order
 drop_at order k lt = drop-cons order k 0 lt
-
--- ---- the least cycle that delays allow
-
-module _ (d : Table) (cycle : List ℕ) (i k old new : ℕ) (x : ℤ) (has : delay_of d k i ≡ Some x) (kept : old ≤ new) (above : (x +ℤ pos (get_or cycle k 0)) ≤ℤ pos new)
-    (one : (new ≡ old) ⊎ (pos new ≡ x +ℤ pos (get_or cycle k 0))) where
-  pub allowed_more : ((m : ℕ) (y : ℤ) → m < k → delay_of d m i ≡ Some y → (pos (get_or cycle m 0) +ℤ y) ≤ℤ pos old) → (m : ℕ) (y : ℤ) → m < k + 1 → delay_of d m i ≡ Some y → (pos (get_or cycle m 0) +ℤ y) ≤ℤ pos new
-  allowed_more f m y lt q = elim (cases_lt m k) [
-    | inl l ↦ (let r = f m y l q in omega (arith, ints))
-    | inr l ↦ (let same : k ≡ m = (let h : k ≤ m = l in omega arith) in
-        let s = same_some x y (sym has ∙ subst (λ n. delay_of d n i ≡ Some y) (sym same) q) in
-        subst (λ n. (pos (get_or cycle n 0) +ℤ y) ≤ℤ pos new) same (subst (λ z. (pos (get_or cycle k 0) +ℤ z) ≤ℤ pos new) s (let a = above in omega (arith, ints))))
-  ]
-
-  pub least_more : (b : ℕ) → ((m : ℕ) (y : ℤ) → delay_of d m i ≡ Some y → (pos (get_or cycle m 0) +ℤ y) ≤ℤ pos b) → old ≤ b → new ≤ b
-  least_more b f o = elim one [ inl e ↦ omega arith | inr e ↦ (let a = f k x has in omega (arith, ints)) ]
 
 -- and its busy time
 pub busy_at : (g : Description) (kinds : List (UnitKind × LatKind)) (i n : ℕ) (d : UnitKind × LatKind) → i < length kinds → n ≡ busy_of g (get_or kinds i d).1 → n ≡ busy_of g (kind_in kinds i)

@@ -4,4 +4,8 @@ pub mod Slots
 pub mod Laws
 pub mod Given
 pub mod Planned
+pub mod Links
+pub mod Queue
+pub mod Rooms
 pub mod Steps
+pub mod Work

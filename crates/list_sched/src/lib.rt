@@ -8,11 +8,13 @@
 
 mod height;
 pub mod laws;
+mod links;
+mod lists;
 mod placing;
-mod ready;
+mod rooms;
 mod scheduling;
 mod slots;
-mod waits;
+mod waiting;
 
 pub use scheduling::{Planned, Planner, schedule};
 pub use slots::SlotTable;

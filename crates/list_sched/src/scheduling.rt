@@ -1,16 +1,19 @@
 // List schedules, in memory that is taken once.
-ghost use Rattle.std.specs.Prelude.{◌≡◌, ◌<◌, ◌≤◌, [], length, slice_index, replicate, vec_capacity, IfOk};
+ghost use Rattle.std.specs.Prelude.{◌≡◌, ◌<◌, ◌≤◌, [], length, slice_index, vec_capacity, IfOk};
 ghost use Rattle.list_sched.specs.Schedule.{IsProblem, IsSchedule};
 ghost use Rattle.list_sched.specs.Given.{problem_of};
 ghost use Rattle.list_sched.specs.Planned.{Plan, HasRoom, schedule_with, schedule_of};
 
 use crate::height::find_heights;
-use crate::placing::place;
-use crate::slots::SlotTable;
+use crate::links::Links;
+use crate::lists::refill;
+use crate::placing::{Work, place};
+use crate::rooms::Rooms;
 use machine_desc::Generation;
 use operation::{LatKind, UnitKind};
 use serial_order::{Delays, order_into};
 use std::alloc::Global;
+use std::collections::BinaryHeap;
 use std::marker::Model;
 use tnk_base::NoMemory;
 
@@ -20,10 +23,11 @@ const MOST: usize = 512;
 /// The last schedule that was made, and the memory for the next one.
 #[derive(Drop)]
 pub struct Planner {
+    links: Links,
     heights: Vec<u32>,
-    waits: Vec<u16>,
+    counts: Vec<u16>,
     placed: Vec<bool>,
-    slots: SlotTable,
+    work: Work,
     cycle: Vec<u32>,
     order: Vec<u16>,
     end: u32,
@@ -34,22 +38,8 @@ impl Model for Planner {
 
     ghost view = { λ p. record { order = p.order.items; cycles = p.cycle.items; end = p.end } };
 
-    ghost invariant = { λ p. HasRoom p.slots (vec_capacity p.heights) (vec_capacity p.waits)
+    ghost invariant = { λ p. HasRoom p.links p.work (vec_capacity p.heights) (vec_capacity p.counts)
         (vec_capacity p.placed) (vec_capacity p.cycle) (vec_capacity p.order) };
-}
-
-/// Makes a list that has room for it so many times the value.
-fn refill<T: Copy>(list: &mut Vec<T>, value: T, count: u16)
-    requires { count ≤ vec_capacity list.old }
-    ensures items { list.new.items ≡ replicate count value }
-    ensures room { vec_capacity list.old ≤ vec_capacity list.new }
-{
-    list.clear();
-    for _ in 0..count {
-        if list.push(value).is_err() {
-            unreachable!()
-        }
-    }
 }
 
 impl Planner {
@@ -58,18 +48,26 @@ impl Planner {
         ensures { IfOk result (λ p. (p.order ≡ []) × (p.cycles ≡ []) × (p.end ≡ 0)) }
     {
         Ok(Planner {
+            links: Links::new(alloc, MOST)?,
             heights: Vec::with_capacity(alloc, MOST)?,
-            waits: Vec::with_capacity(alloc, MOST)?,
+            counts: Vec::with_capacity(alloc, MOST)?,
             placed: Vec::with_capacity(alloc, MOST)?,
-            slots: SlotTable::new(alloc, 32 * MOST as u32)?,
+            work: Work {
+                waits: Vec::with_capacity(alloc, MOST)?,
+                least: Vec::with_capacity(alloc, MOST)?,
+                queue: BinaryHeap::with_capacity(alloc, MOST)?,
+                rooms: Rooms::new(alloc, 32 * MOST as u32)?,
+            },
             cycle: Vec::with_capacity(alloc, MOST)?,
             order: Vec::with_capacity(alloc, MOST)?,
             end: 0,
         })
     }
 
-    /// Makes the list schedule of operations with these delays and kinds on a machine generation. It takes no memory, and
-    /// n * n steps for n operations.
+    /// Makes the list schedule of operations with these delays and kinds on a machine generation. It takes no memory.
+    ///
+    /// It reads the table of n operations some 3 n^2 times. From there on it takes a few steps for each delay, and for each
+    /// operation some log n to find the one that goes next and a leap or two to the cycle that has room.
     pub fn plan<G: Generation>(&mut self, d: &Delays, kinds: &[(UnitKind, LatKind)], g: &G)
         requires count { length kinds.now ≡ d.now.count }
         requires problem { IsProblem (problem_of d.now kinds.now (G.description g.now)) }
@@ -77,24 +75,26 @@ impl Planner {
             (schedule_with self.new.order self.new.cycles self.new.end) }
         ensures cycles { length self.new.cycles ≡ d.now.count }
     {
-        refill(&mut self.heights, 0, d.count());
-        refill(&mut self.waits, 0, d.count());
-        refill(&mut self.placed, false, d.count());
-        refill(&mut self.cycle, 0, d.count());
-        if order_into(d, &mut self.waits, &mut self.placed, &mut self.order).is_some() {
+        let n = kinds.len();
+        refill(&mut self.heights, 0, n);
+        refill(&mut self.counts, 0, n);
+        refill(&mut self.placed, false, n);
+        refill(&mut self.work.waits, 0, n);
+        refill(&mut self.work.least, 0, n);
+        refill(&mut self.cycle, 0, n);
+        self.links.fill(d);
+        if order_into(d, &mut self.counts, &mut self.placed, &mut self.order).is_some() {
             unreachable!()
         }
-        find_heights(d, kinds, g, &self.order, &mut self.heights);
+        find_heights(&self.links, kinds, g, &self.order, &mut self.heights);
         self.end = place(
-            d,
+            &self.links,
             kinds,
             g,
             &self.heights,
-            &mut self.waits,
-            &mut self.placed,
+            &mut self.work,
             &mut self.cycle,
             &mut self.order,
-            &mut self.slots,
         );
     }
 

@@ -1,5 +1,5 @@
 // How many operations issue in each cycle, and how many are busy in it on each unit kind.
-ghost use Rattle.std.specs.Prelude.{◌≡◌, ◌<◌, ◌≤◌, ◌+◌, ◌*◌, ℕ, ◌↔◌, IsTrue, IfOk, length, slice_index};
+ghost use Rattle.std.specs.Prelude.{◌≡◌, ◌<◌, ◌≤◌, ◌+◌, ◌*◌, ◌++◌, ℕ, ◌↔◌, IsTrue, IfOk, length, slice_index, replicate, drop};
 ghost use Rattle.operation.specs.Places.{unit_number};
 ghost use Rattle.machine_desc.specs.Description.{units_of, busy_of};
 ghost use Rattle.list_sched.specs.Slots.{Slots, cycles as cycles_of, AreSlots, empty, HasRoomFor, IsBusier, IsTaken};
@@ -26,7 +26,7 @@ impl Model for SlotTable {
 }
 
 /// The place of the count of a unit kind in a cycle.
-fn slot(cycle: u32, k: UnitKind) -> usize
+pub(crate) fn slot(cycle: u32, k: UnitKind) -> usize
     ensures { result ≡ cycle * 5 + unit_number k }
 {
     cycle as usize * 5 + k as usize
@@ -59,6 +59,16 @@ fn keep_busy(busy: &mut [u8], k: UnitKind, from: u32, before: u32)
     }
 }
 
+/// Writes the value to the first so many places.
+pub(crate) fn fill_first<T: Copy>(list: &mut [T], count: usize, value: T)
+    requires { count ≤ length list.old }
+    ensures { list.new ≡ replicate count value ++ drop count list.old }
+{
+    for i in 0..count {
+        list[i] = value;
+    }
+}
+
 impl SlotTable {
     /// So many cycles of which nothing is taken.
     pub fn new(alloc: Global, cycles: u32) -> Result<Self, NoMemory>
@@ -77,6 +87,24 @@ impl SlotTable {
     {
         self.issued.fill(0);
         self.busy.fill(0);
+    }
+
+    /// Gives the slots of the first so many cycles back.
+    pub(crate) fn clear_first(&mut self, count: u32)
+        requires { count ≤ cycles_of self.old }
+        ensures issued { self.new.issued ≡ replicate count 0 ++ drop count self.old.issued }
+        ensures busy { self.new.busy ≡ replicate (count * 5) 0 ++ drop (count * 5) self.old.busy }
+    {
+        fill_first(&mut self.issued, count as usize, 0);
+        fill_first(&mut self.busy, count as usize * 5, 0);
+    }
+
+    /// Whether an operation of the unit kind that is busy for one cycle can issue in a cycle of a generation.
+    pub(crate) fn is_open<G: Generation>(&self, g: &G, cycle: u32, k: UnitKind) -> bool
+        requires { cycle < cycles_of self.now }
+        ensures { IsTrue result ↔ HasRoomFor (G.description g.now) self.now k 1 cycle }
+    {
+        self.issued[cycle as usize] < g.width() && self.busy[slot(cycle, k)] < g.units(k)
     }
 
     /// Whether an operation of these kinds can issue in a cycle of a generation: fewer than its width do, and while the

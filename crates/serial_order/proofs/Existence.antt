@@ -3,7 +3,7 @@ use Rattle.std.proofs.Common.{◌≡◌, ℕ, zero, suc, ◌<◌, ◌≤◌, Boo
 use Rattle.std.proofs.lemmas.Bool.{cases_eq, cases_Bool, both_ways}
 use Rattle.serial_order.specs.Lists.{Among, Earlier, EachOnce, has}
 use Rattle.serial_order.specs.SerialOrder.{IsOrder, is_stuck, first_stuck}
-use Rattle.serial_order.specs.Counts.{unplaced_before}
+use Rattle.serial_order.specs.Counts.{ones, unplaced_before}
 use Rattle.serial_order.specs.Laws.{OrderedWhereNoneStuck}
 use Rattle.serial_order.proofs.Members.{has_among, not_among, earlier_right}
 use Rattle.serial_order.proofs.Counting.{zero_all, positive_one, count_placed}
@@ -60,7 +60,7 @@ module _ (before : ℕ → ℕ → Bool) (n : ℕ) where
   always i j = true
 
   grow : first_stuck before n ≡ None → (m : ℕ) (order : List ℕ) → IsFront before n order → unplaced_before always order 0 n ≡ m → (list : List ℕ) × IsOrder before n list
-  grow none zero order f e = (order, front_order before n order f (λ k lt. zero_all always order 0 n e k lt refl))
+  grow none zero order f e = (order, front_order before n order f (λ k lt. zero_all (ones always) order 0 n e k lt (omega arith)))
   grow none (suc m) order f e = go (grow none m) (one_follows order n (omega arith))
     where
       go : ((list : List ℕ) → IsFront before n list → unplaced_before always list 0 n ≡ m → (all : List ℕ) × IsOrder before n all) →
@@ -68,9 +68,9 @@ module _ (before : ℕ → ℕ → Bool) (n : ℕ) where
           (list : List ℕ) × IsOrder before n list
       go ih (inl r) =
           ih (order ++ r.0 ∷ []) (front_next before n order r.0 f r.1.0 r.1.1 r.1.2)
-          (let c = count_placed always order r.0 0 n r.1.1 r.1.0 in omega arith)
+          (let c = count_placed (ones always) order r.0 0 n r.1.1 r.1.0 in omega arith)
       go ih (inr g) =
-          let p = positive_one always order 0 n (omega arith) in
+          let p = positive_one (ones always) order 0 n (omega arith) in
           absurd (both_ways (is_stuck before n p.0) (none_first before n none p.0 p.1)
           (has_stuck before n p.0 (left before n order) (left_stuck before n order g) (in_left before n order p.0 p.1 p.3)))
 

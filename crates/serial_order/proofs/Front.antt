@@ -5,9 +5,9 @@ use Rattle.std.specs.List.{range_with_len}
 use Rattle.std.proofs.lemmas.Bool.{not_from_false}
 use Rattle.serial_order.specs.Lists.{Among, Earlier, EachOnce, has}
 use Rattle.serial_order.specs.SerialOrder.{IsOrder, IsStuckSet, first_stuck}
-use Rattle.serial_order.specs.Counts.{unplaced_before}
+use Rattle.serial_order.specs.Counts.{ones, unplaced_before}
 use Rattle.serial_order.proofs.Members.{among_push, earlier_push, earlier_last, once_push, among_filter, filter_among, among_range, range_among, not_among, not_has}
-use Rattle.serial_order.proofs.Counting.{zero_all, positive_one, not_true}
+use Rattle.serial_order.proofs.Counting.{zero_all, positive_one, one_true, true_one, not_true}
 use Rattle.serial_order.proofs.Stuck.{has_stuck, not_stuck, first_none, first_some}
 
 module _ (before : ℕ → ℕ → Bool) (n : ℕ) where
@@ -37,7 +37,7 @@ module _ (before : ℕ → ℕ → Bool) (n : ℕ) where
   }
 
   pub front_next : (order : List ℕ) (x : ℕ) → IsFront order → x < n → (Among x order → ⊥) → unplaced_before before order x n ≡ 0 → IsFront (order ++ x ∷ [])
-  front_next order x f lt un e = front_more order x f lt un (zero_all before order x n e)
+  front_next order x f lt un e = front_more order x f lt un (λ i below t. zero_all (ones before) order x n e i below (true_one (before i x) t))
 
   -- all are placed
   pub front_order : (order : List ℕ) → IsFront order → ((k : ℕ) → k < n → Among k order) → IsOrder before n order
@@ -64,8 +64,8 @@ module _ (before : ℕ → ℕ → Bool) (n : ℕ) where
     held = λ j a.
         let m = filter_among (λ i. not (has i order)) (range_with_len 0 n) j a in
         let ne = none j (range_among n j m.0) (not_among j order (not_true (has j order) m.1)) in
-        let r = positive_one before order j n (grind arith) in
-        (r.0, in_left order r.0 r.1 r.3, r.2);
+        let r = positive_one (ones before) order j n (grind arith) in
+        (r.0, in_left order r.0 r.1 r.3, one_true (before r.0 j) r.2);
   }
 
   -- the least of them is the first that is stuck

@@ -5,7 +5,7 @@ use Rattle.std.proofs.lemmas.Bool.{cases_eq}
 use Rattle.std.proofs.lemmas.List.{length-set, get_or-set_same, get_or-set_other}
 use Rattle.serial_order.specs.Lists.{Among, has}
 use Rattle.serial_order.specs.SerialOrder.{IsOrder, first_stuck}
-use Rattle.serial_order.specs.Counts.{one_where, unplaced_before}
+use Rattle.serial_order.specs.Counts.{one_where, ones, unplaced_before}
 use Rattle.serial_order.proofs.Members.{has_among, not_among, not_has, has_push_same, has_push_other}
 use Rattle.serial_order.proofs.Counting.{count_placed}
 use Rattle.serial_order.proofs.Front.{IsFront, front_next, front_order, front_first_none, front_first_some}
@@ -26,13 +26,13 @@ module _ (before : ℕ → ℕ → Bool) (n : ℕ) where
     -- what is taken off was counted
     pub enough : (i : ℕ) → i < n → slice_index_or marks i true ≡ false → (j : ℕ) → j < n → one_where (before i j) ≤ slice_index counts j
     enough i lt e j within =
-        let c = count_placed before order i j n (unmarked i lt e) lt in
+        let c = count_placed (ones before) order i j n (unmarked i lt e) lt in
         let d = p.counted j within in
         omega arith
 
     -- fewer are left
     pub fewer : (i : ℕ) → i < n → slice_index_or marks i true ≡ false → unplaced_before (λ a b. true) (order ++ i ∷ []) 0 n < unplaced_before (λ a b. true) order 0 n
-    fewer i lt e = let c = count_placed (λ a b. true) order i 0 n (unmarked i lt e) lt in omega arith
+    fewer i lt e = let c = count_placed (ones (λ a b. true)) order i 0 n (unmarked i lt e) lt in omega arith
 
     pub step : (i : ℕ) → i < n → slice_index_or marks i true ≡ false → slice_index counts i ≡ 0 → (counts' : List ℕ) → length counts' ≡ length counts →
         ((j : ℕ) → j < n → slice_index counts' j + one_where (before i j) ≡ slice_index counts j) → IsProgress counts' (slice_set marks i true) (order ++ i ∷ [])
@@ -40,7 +40,7 @@ module _ (before : ℕ → ℕ → Bool) (n : ℕ) where
       counts_size = size ∙ p.counts_size;
       marks_size = length-set marks i true ∙ p.marks_size;
       counted = λ j within.
-          let c = count_placed before order i j n (unmarked i lt e) lt in
+          let c = count_placed (ones before) order i j n (unmarked i lt e) lt in
           let d = p.counted j within in
           let o = off j within in
           omega arith;

@@ -26,7 +26,7 @@ loop-i-init c = record {
   };
   left =
       let none = ap length c.clear.ensures.items in
-      let most = count_most (λ i j. true) c.clear.new.self.items 0 c.args.d.now.count in
+      let most = count_most (λ i j. 1) 1 (λ i j. omega arith) c.clear.new.self.items 0 c.args.d.now.count in
       omega arith;
   room = search rules;
   more = search rules;
