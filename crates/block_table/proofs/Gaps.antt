@@ -25,7 +25,7 @@ ends_rise rows rise j (suc k) lt there = elim (cases_lt j k) [
 ]
 
 -- an address in the block of a row
-in_block : (rows : Rows) (k a : ℕ) → k < length rows → entry_of rows k ≤ a → a < end_of rows k → is_in_block rows a ≡ true
+pub in_block : (rows : Rows) (k a : ℕ) → k < length rows → entry_of rows k ≤ a → a < end_of rows k → is_in_block rows a ≡ true
 in_block rows k a there low high =
     list_any-from_Any (λ (row : ℕ × ℕ). nat_le row.0 a && nat_lt a (row.0 + row.1)) rows (
       k,
@@ -41,7 +41,7 @@ off_block e n a (inl before) = ap (λ (b : Bool). b && nat_lt a (e + n)) (lt-leb
 off_block e n a (inr behind) = second_false (nat_le e a) (nat_lt a (e + n)) (le-ltb a (e + n) behind)
 
 -- an address between the block before a row and the row's
-in_gap : (rows : Rows) → IsRising rows → (k a : ℕ) → k ≤ length rows → end_before rows k ≤ a → (k < length rows → a < entry_of rows k) →
+pub in_gap : (rows : Rows) → IsRising rows → (k a : ℕ) → k ≤ length rows → end_before rows k ≤ a → (k < length rows → a < entry_of rows k) →
     is_in_block rows a ≡ false
 in_gap rows rise k a there low high =
     list_any_none (λ (row : ℕ × ℕ). nat_le row.0 a && nat_lt a (row.0 + row.1)) rows

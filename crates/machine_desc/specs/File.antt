@@ -1,8 +1,8 @@
 -- What a description file is: a TOML document with a whole number in its range at each key.
-use Rattle.std.specs.Prelude.{codes, ℕ, ℤ, pos, ◌≡◌, ◌-◌, Bool, false, not, ◌||◌, ◌&&◌, ◌==◌, nat_le, int_lt, nat_abs, if◌then◌else◌, List, [], ◌∷◌, map, find, slice_index_or, Option, Some, None, option_map, is_none, is_some, bytes_eq}
+use Rattle.std.specs.Prelude.{codes, ℕ, ℤ, pos, ◌≡◌, ◌-◌, Bool, false, not, ◌||◌, ◌&&◌, ◌==◌, nat_le, int_lt, nat_abs, if◌then◌else◌, List, [], ◌∷◌, map, find, slice_index_or, Option, Some, None, option_map, is_none, is_some, bytes_eq, Result, Ok, Err}
 use Rattle.std.specs.Option.{option_or, option_map_or}
 use Rattle.std.specs.List.{list_any, range_with_len}
-use Rattle.std.specs.Str.{IsUtf8}
+use Rattle.std.specs.Str.{IsUtf8, is_utf8}
 use Rattle.toml.specs.Data.{Data, Members, no_members, member, integer, get_member, as_integer}
 use Rattle.toml.specs.Parse.{parse_document}
 use Rattle.machine_desc.specs.declared.reading.MdesFault.{MdesFault}
@@ -90,6 +90,18 @@ numbers m first count = map (λ n. nat_abs (number m n)) (range_with_len first c
 -- the numbers in a document
 abbrev pub described : Members → Description
 described m = description (nat_abs (number m 0)) (numbers m 1 5) (numbers m 6 9) (numbers m 15 9)
+
+-- what the bytes of a description file come to: the numbers in it, or its first fault
+abbrev pub read_members : Option MdesFault → Members → Result Description MdesFault
+read_members None m = Ok (described m)
+read_members (Some fault) m = Err fault
+
+abbrev pub read_document : Option Members → Result Description MdesFault
+read_document None = Err Toml
+read_document (Some m) = read_members (first_fault m) m
+
+unfoldable pub read_description : List ℕ → Result Description MdesFault
+read_description bytes = if is_utf8 bytes then read_document (parse_document bytes) else Err Toml
 
 -- the bytes are a TOML document
 abbrev pub IsDocument : List ℕ → Members → Type 0

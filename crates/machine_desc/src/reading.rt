@@ -63,11 +63,11 @@ impl From<NoMemory> for MdesFault {
     }
 }
 
-fn key_name(n: u8) -> &'static str
-    requires { n < 24 }
+/// The key of a number; nothing for a number above 23.
+pub fn key_name(n: u8) -> &'static str
     ensures { result.now ≡ key n }
 {
-    KEYS[n as usize]
+    if n < 24 { KEYS[n as usize] } else { "" }
 }
 
 fn value(table: &Table, n: u8) -> Option<&Value>

@@ -1,5 +1,11 @@
 -- How a refused file is told.
 use Rattle.std.specs.Prelude.{ℕ, List, ◌++◌, codes, decimal}
+use Rattle.std.specs.Fmt.{signed_decimal}
+use Rattle.operation.specs.declared.UnitKind.{UnitKind}
+use Rattle.operation.specs.declared.UnitKind.TheVariants as unit
+use Rattle.machine_desc.specs.declared.reading.MdesFault.{MdesFault}
+use Rattle.machine_desc.specs.declared.reading.MdesFault.TheVariants.{Toml, Missing, Unknown, NotNumber, Range, NoMemory}
+use Rattle.machine_desc.specs.File.{key}
 use Rattle.image_check.specs.declared.rules.Rule.{Rule}
 use Rattle.image_check.specs.declared.rules.Rule.TheVariants as rule
 use Rattle.image_check.specs.declared.rules.Refusal.{Refusal}
@@ -49,6 +55,27 @@ refusal_text r = rule_name r.rule ++ place r.rule r.at r.op
 -- a file with more bytes than the limit
 abbrev pub too_long_text : ℕ → List ℕ
 too_long_text limit = codes "TooLong " ++ decimal limit
+
+-- the fault of a description file, with its key and the number that stands there; for want of memory there is no text
+abbrev pub mdes_fault_text : MdesFault → List ℕ
+mdes_fault_text Toml = codes "Toml"
+mdes_fault_text (Missing n) = codes "Missing " ++ key n
+mdes_fault_text (Unknown name) = codes "Unknown " ++ name
+mdes_fault_text (NotNumber n) = codes "NotNumber " ++ key n
+mdes_fault_text (Range n z) = codes "Range " ++ key n ++ codes " " ++ signed_decimal z
+mdes_fault_text NoMemory = codes ""
+
+-- the letter of a unit kind
+abbrev pub unit_letter : UnitKind → List ℕ
+unit_letter unit.I = codes "I"
+unit_letter unit.M = codes "M"
+unit_letter unit.L = codes "L"
+unit_letter unit.P = codes "P"
+unit_letter unit.B = codes "B"
+
+-- an image for a generation that has no unit of a kind that the image uses
+abbrev pub no_unit_text : UnitKind → List ℕ
+no_unit_text k = codes "NoUnit " ++ unit_letter k
 
 -- the one line of a refusal: what is refused, and why
 abbrev pub refused_line : (name why : List ℕ) → List ℕ

@@ -83,6 +83,10 @@ accepted_line name pages blocks words =
     codes "accepted " ++ name ++ codes " pages " ++ decimal pages ++ codes " blocks " ++ decimal blocks ++ codes " words "
     ++ decimal words ++ codes "\n"
 
+-- the line of a file that was kept, with how many bytes it has
+unfoldable pub wrote_line : List ℕ → ℕ → List ℕ
+wrote_line name bytes = codes "wrote " ++ name ++ codes " " ++ decimal bytes ++ codes "\n"
+
 -- what `check` puts out of an accepted image
 abbrev pub accepted_text : List ℕ → Image → List ℕ
 accepted_text name image = accepted_line name (page_count image) (length image.rows) (sum (map (λ r. r.count) image.rows))

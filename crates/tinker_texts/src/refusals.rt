@@ -1,8 +1,10 @@
 // How a refused file is told.
-ghost use Rattle.std.specs.Prelude.{Some, ◌≡◌, IfOk};
-ghost use Rattle.tinker_texts.specs.Refusals.{rule_name, place, refusal_text, too_long_text, refused_line};
+ghost use Rattle.std.specs.Prelude.{Some, ◌≡◌, ◌++◌, IfOk, codes};
+ghost use Rattle.tinker_texts.specs.Refusals.{rule_name, place, refusal_text, too_long_text, mdes_fault_text, unit_letter, no_unit_text, refused_line};
 
 use image_check::{Refusal, Rule};
+use machine_desc::{MdesFault, key_name};
+use operation::UnitKind;
 use std::alloc::{AllocError, Global};
 use std::fmt;
 
@@ -89,5 +91,60 @@ pub fn too_long(alloc: Global, name: &str, limit: u64) -> Result<Vec<u8>, AllocE
     ensures { IfOk result (λ line. line.items ≡ refused_line name.now (too_long_text limit)) }
 {
     let line = format!(in alloc; "refused {name} TooLong {limit}\n")?;
+    Ok(line.into_bytes())
+}
+
+/// The line of a description file whose key has an unknown name.
+fn unknown(alloc: Global, name: &str, key: &[u8]) -> Result<Vec<u8>, AllocError>
+    ensures { IfOk result (λ line. line.items ≡ refused_line name.now (codes "Unknown " ++ key.now)) }
+{
+    let mut line = format!(in alloc; "refused {name} Unknown ")?.into_bytes();
+    line.extend_from_slice(key)?;
+    line.push(b'\n')?;
+    Ok(line)
+}
+
+/// The line of a description file that has a fault.
+pub fn undescribed(alloc: Global, name: &str, fault: &MdesFault) -> Result<Vec<u8>, AllocError>
+    ensures { IfOk result (λ line. line.items ≡ refused_line name.now (mdes_fault_text fault.now)) }
+{
+    let line = match fault {
+        MdesFault::Toml => format!(in alloc; "refused {name} Toml\n"),
+        MdesFault::Missing(n) => {
+            let key = key_name(*n);
+            format!(in alloc; "refused {name} Missing {key}\n")
+        }
+        MdesFault::Unknown(key) => return unknown(alloc, name, key.bytes()),
+        MdesFault::NotNumber(n) => {
+            let key = key_name(*n);
+            format!(in alloc; "refused {name} NotNumber {key}\n")
+        }
+        MdesFault::Range(n, value) => {
+            let key = key_name(*n);
+            format!(in alloc; "refused {name} Range {key} {value}\n")
+        }
+        MdesFault::NoMemory => format!(in alloc; "refused {name} \n"),
+    };
+    Ok(line?.into_bytes())
+}
+
+fn letter(k: UnitKind) -> &'static str
+    ensures { result.now ≡ unit_letter k }
+{
+    match k {
+        UnitKind::I => "I",
+        UnitKind::M => "M",
+        UnitKind::L => "L",
+        UnitKind::P => "P",
+        UnitKind::B => "B",
+    }
+}
+
+/// The line of an image that uses a unit kind of which the generation has none.
+pub fn no_unit(alloc: Global, name: &str, k: UnitKind) -> Result<Vec<u8>, AllocError>
+    ensures { IfOk result (λ line. line.items ≡ refused_line name.now (no_unit_text k)) }
+{
+    let letter = letter(k);
+    let line = format!(in alloc; "refused {name} NoUnit {letter}\n")?;
     Ok(line.into_bytes())
 }

@@ -1,7 +1,7 @@
 // The texts of a check and of a run.
 ghost use Rattle.std.specs.Prelude.{Some, ◌≡◌, ◌<◌, ◌≤◌, ◌*◌, ◌^◌, ◌++◌, ◌∷◌, [], length, map, sum, nat_eq, OnOk, IfOk, string_bytes, encode_utf8};
 ghost use Rattle.std.specs.List.{list_all};
-ghost use Rattle.tinker_texts.specs.Report.{kind_name as name_of, end_text, hex, hex_digit as digit_of, hex_line, hex_lines, heading, memory_heading, memory_row as row_of, row_line, memory_line, memory_lines, memory_part, cycles_line, part as part_text, accepted_line, accepted_text};
+ghost use Rattle.tinker_texts.specs.Report.{kind_name as name_of, end_text, hex, hex_digit as digit_of, hex_line, hex_lines, heading, memory_heading, memory_row as row_of, row_line, memory_line, memory_lines, memory_part, cycles_line, part as part_text, accepted_line, wrote_line, accepted_text};
 
 use byteorder::{BigEndian, ByteOrder};
 use image_check::Accepted;
@@ -238,6 +238,15 @@ fn push_accepted(
         text,
         "accepted {name} pages {pages} blocks {blocks} words {words}"
     )
+}
+
+/// The line of a file that was kept, with how many bytes it has.
+#[tactic(auto, unfolding(crate::specs::Report::wrote_line))]
+pub fn wrote(alloc: Global, name: &str, bytes: usize) -> Result<Vec<u8>, AllocError>
+    ensures { IfOk result (λ text. text.items ≡ wrote_line name.now bytes) }
+{
+    let line = format!(in alloc; "wrote {name} {bytes}\n")?;
+    Ok(line.into_bytes())
 }
 
 /// What is put out of an accepted image.

@@ -2,9 +2,11 @@
 use Rattle.std.proofs.Common.{ℕ, ◌+◌, ◌≡◌, inl, inr, List, [], ◌∷◌, ◌++◌, length, take, Option, Some, None, refl, sym, ◌∙◌, ap, subst, append_assoc, length-append, arith}
 use Rattle.tnk_base.specs.declared.host.Asked.TheVariants.{Put, Keep}
 use Rattle.tnk_base.specs.Host.{Files, Shown, Stands, Holds, IsLeftBut, grown, noted, NotedOr, GrowsByPart}
-use Rattle.tinker_top.specs.Outcome.{Outcome, Kept, ends, says, calls_of, keep_call, last_call}
+use Rattle.tinker_top.specs.Outcome.{Outcome, Kept, HasContent, ends, says, calls_of, keep_call, last_call}
 use Rattle.tinker_top.specs.Top.{IsDone, IsPartOf, IsLeft, asked_too}
-use Rattle.tinker_top.specs.Steps.{Leads, Begins}
+use Rattle.tinker_top.specs.declared.steps.Said.{Said}
+use Rattle.tinker_top.specs.declared.steps.Keeping.{Keeping}
+use Rattle.tinker_top.specs.Steps.{Leads, Begins, IsKeeping, MayKeep, IsEnding}
 use Rattle.tinker_top.proofs.Calls.{grown-all, grown-none, asked_too-none, asked_too-append, first_of_more, first_behind}
 
 -- the put
@@ -19,7 +21,7 @@ put_part Excuse status text old new same part (inr e) =
     record { made = 0; calls = e.1 ∙ asked_too-none old.asked; text = part; others = same; stands = λ _. same; kept = λ _. tt }
 
 -- the keep, and then the put
-module _ (k : Kept) (status : ℕ) (text : List ℕ) (old mid new : Shown) (holds : Holds mid.files k.name k.bytes)
+module _ (k : Kept) (status : ℕ) (text : List ℕ) (old mid new : Shown) (bytes : List ℕ) (content : HasContent k.content bytes) (holds : Holds mid.files k.name bytes)
     (left : IsLeftBut k.name old.files mid.files) (stays : mid.out ≡ old.out) (noted_it : mid.asked ≡ noted (Keep k.name) old.asked) where
   pub keep_then_done : (given : ℕ) → IsDone (says status text) given mid new → IsDone (ends (Some k) status text) given old new
   keep_then_done given h =
@@ -27,7 +29,7 @@ module _ (k : Kept) (status : ℕ) (text : List ℕ) (old mid new : Shown) (hold
         status = h.status;
         text = h.text ∙ ap (grown text) stays;
         calls = h.calls ∙ (ap (λ m. asked_too (Put ∷ []) m) noted_it ∙ asked_too-append (Keep k.name ∷ []) (Put ∷ []) old.asked);
-        kept = rw h.others holds;
+        kept = (bytes, content, rw h.others holds);
         others = rw h.others left;
       }
 
@@ -39,13 +41,13 @@ module _ (k : Kept) (status : ℕ) (text : List ℕ) (old mid new : Shown) (hold
         text = (h.text.0, h.text.1 ∙ ap (grown (take h.text.0 text)) stays);
         others = rw h.others left;
         stands = λ none. absurd (let k : ⊥ = omega arith in k);
-        kept = λ _. rw h.others holds;
+        kept = λ _. (bytes, content, rw h.others holds);
       }
 
 -- the keep was refused: it may have been asked, and may have changed the file
-pub keep_part : (Excuse : Type 0) (k : Kept) (status : ℕ) (text : List ℕ) (old new : Shown) → IsLeftBut k.name old.files new.files →
+refused_part : (Excuse : Type 0) (k : Kept) (status : ℕ) (text : List ℕ) (old new : Shown) → IsLeftBut k.name old.files new.files →
     new.out ≡ old.out → NotedOr (Excuse × (new.files ≡ old.files)) (Keep k.name) old.asked new.asked → IsPartOf (ends (Some k) status text) old new
-keep_part Excuse k status text old new left stays (inl e) =
+refused_part Excuse k status text old new left stays (inl e) =
     record {
       made = 1;
       calls = e;
@@ -54,7 +56,7 @@ keep_part Excuse k status text old new left stays (inl e) =
       stands = λ few. absurd (let k : ⊥ = omega arith in k);
       kept = λ many. absurd (let k : ⊥ = omega arith in k);
     }
-keep_part Excuse k status text old new left stays (inr e) =
+refused_part Excuse k status text old new left stays (inr e) =
     record {
       made = 0;
       calls = e.1 ∙ asked_too-none old.asked;
@@ -63,6 +65,12 @@ keep_part Excuse k status text old new left stays (inr e) =
       stands = λ few. e.0.1;
       kept = λ many. absurd (let k : ⊥ = omega arith in k);
     }
+
+pub keep_part : (Excuse : Type 0) (name : List ℕ) (k : Kept) → name ≡ k.name → (status : ℕ) (text : List ℕ) (old new : Shown) → IsLeftBut name old.files new.files →
+    new.out ≡ old.out → NotedOr (Excuse × (new.files ≡ old.files)) (Keep name) old.asked new.asked → IsPartOf (ends (Some k) status text) old new
+keep_part Excuse name k named status text old new left stays asked =
+    refused_part Excuse k status text old new (subst (λ n. IsLeftBut n old.files new.files) named left) stays
+    (subst (λ n. NotedOr (Excuse × (new.files ≡ old.files)) (Keep n) old.asked new.asked) named asked)
 
 -- the steps, and then the end
 module _ (o rest : Outcome) (old mid new : Shown) (leads : Leads o rest old mid) (stands : Stands old mid) where
@@ -108,3 +116,18 @@ stopped_part o old new h stands =
       stands = λ few. stands.files;
       kept = λ many. absurd (let k : ⊥ = omega (arith, r.1.0) in k);
     }
+
+-- what a command ends with, by the file that it keeps
+pub ends_kept : (said : Said) (keeping : Keeping) (o : Outcome) → said.kept ≡ Some keeping → IsEnding said o → (k : Kept) × IsKeeping keeping k × (o ≡ ends (Some k) 0 said.text.items)
+ends_kept said keeping o some e = go e.kept (subst (λ s. MayKeep s e.kept) some e.keeps) e.same
+  where
+    go : (kept : Option Kept) → MayKeep (Some keeping) kept → o ≡ ends kept 0 said.text.items → (k : Kept) × IsKeeping keeping k × (o ≡ ends (Some k) 0 said.text.items)
+    go None m same = absurd m
+    go (Some k) m same = (k, m, same)
+
+pub ends_unkept : (said : Said) (o : Outcome) → said.kept ≡ None → IsEnding said o → o ≡ says 0 said.text.items
+ends_unkept said o none e = go e.kept (subst (λ s. MayKeep s e.kept) none e.keeps) e.same
+  where
+    go : (kept : Option Kept) → MayKeep None kept → o ≡ ends kept 0 said.text.items → o ≡ says 0 said.text.items
+    go None m same = same
+    go (Some k) m same = absurd m

@@ -1,19 +1,20 @@
 -- How a command comes from step to step.
-use Rattle.std.proofs.Common.{ℕ, ◌+◌, ◌≡◌, List, [], ◌∷◌, ◌++◌, length, take, Option, Some, None, refl, sym, ◌∙◌, ap, Result, Ok, Err, ◌≤◌, ◌<◌, option_map, if◌then◌else◌, IsErr, IsErrAnd}
+use Rattle.std.proofs.Common.{ℕ, ◌+◌, ◌≡◌, List, [], ◌∷◌, ◌++◌, length, take, Option, Some, None, refl, sym, subst, ◌∙◌, ap, Result, Ok, Err, ◌≤◌, ◌<◌, option_map, if◌then◌else◌, IsErr, IsErrAnd}
 use Rattle.std.proofs.lemmas.Bool.{le-ltb, lt-ltb}
 use Rattle.tnk_base.specs.declared.host.Asked.{Asked}
 use Rattle.tnk_base.specs.declared.host.Asked.TheVariants.{Fetch}
 use Rattle.tnk_base.specs.Host.{Files, Shown}
 use Rattle.image_format.specs.Image.{Image}
-use Rattle.image_check.specs.Rules.{first_broken}
+use Rattle.image_check.specs.Units.{first_lacking}
+use Rattle.machine_desc.specs.Description.{Description}
 use Rattle.tinker_texts.specs.Refusals.{too_long_text}
 use Rattle.tinker_top.specs.declared.steps.Said.{Said}
 use Rattle.tinker_top.specs.declared.steps.Stop.{Stop}
 use Rattle.tinker_top.specs.declared.steps.Stop.TheVariants.{Refused, Fault, Memory}
-use Rattle.tinker_top.specs.Outcome.{Outcome, after, refused, fetched, fetching}
-use Rattle.tinker_top.specs.Command.{if_accepted}
+use Rattle.tinker_top.specs.Outcome.{Outcome, after, says, refused, fetched, fetching}
+use Rattle.tinker_top.specs.Command.{if_it_has_units}
 use Rattle.tinker_top.specs.Top.{asked_too}
-use Rattle.tinker_top.specs.Steps.{Leads, Begins, ComesTo, GivesTo, IsJudged}
+use Rattle.tinker_top.specs.Steps.{Leads, Begins, ComesTo, GivesTo, IsDecided, IsMoved, IsEnding, MayKeep}
 use Rattle.tinker_top.proofs.Calls.{asked_too-none, asked_too-append, after-after, first_behind}
 
 -- no call was made
@@ -53,7 +54,7 @@ begun o p old new h = begins_on o p old new new h (begins_with_none p new new re
 -- a step gave a value, and the rest came from it
 pub comes_on : {V X : Type 0} (view : V → X) (step : (X → Outcome) → Outcome) (next : X → Outcome) (v : V) (old mid new : Shown) (r : Result Said Stop) →
     GivesTo view step (Ok v) old mid → ComesTo (next (view v)) r mid new → ComesTo (step next) r old new
-comes_on view step next v old mid new (Ok said) g h = leads_on _ _ _ old mid new (g next) h
+comes_on view step next v old mid new (Ok said) g h = (h.0, h.1, leads_on _ _ _ old mid new (g next) h.2)
 comes_on view step next v old mid new (Err (Refused line)) g h = leads_on _ _ _ old mid new (g next) h
 comes_on view step next v old mid new (Err Fault) g h = begins_on _ _ old mid new (g next) h
 comes_on view step next v old mid new (Err Memory) g h = begins_on _ _ old mid new (g next) h
@@ -85,13 +86,12 @@ gives_on view step outer inner v (Err (Refused line)) old mid new g h = λ next.
 gives_on view step outer inner v (Err Fault) old mid new g h = λ next. begins_on _ _ old mid new (g (inner next)) (h next)
 gives_on view step outer inner v (Err Memory) old mid new g h = λ next. begins_on _ _ old mid new (g (inner next)) (h next)
 
--- an image was judged without a call
-pub judged_gives : (name bytes : List ℕ) (r : Result Image Stop) (old : Shown) → IsJudged name bytes r →
-    GivesTo (λ (image : Image). image) (λ next. if_accepted name next bytes (first_broken bytes)) r old old
-judged_gives name bytes (Ok image) old h = λ next. leads_to_same _ _ old old (h next) refl
-judged_gives name bytes (Err (Refused line)) old h = λ next. leads_to_same _ _ old old (h next) refl
-judged_gives name bytes (Err Fault) old h = absurd h
-judged_gives name bytes (Err Memory) old h = λ next. begins_with_none _ old old refl
+-- a step was decided without a call
+pub decided_gives : {V X : Type 0} (view : V → X) (step : (X → Outcome) → Outcome) (r : Result V Stop) (old : Shown) → IsDecided view step r → GivesTo view step r old old
+decided_gives view step (Ok v) old h = λ next. leads_to_same _ _ old old (h next) refl
+decided_gives view step (Err (Refused line)) old h = λ next. leads_to_same _ _ old old (h next) refl
+decided_gives view step (Err Fault) old h = absurd h
+decided_gives view step (Err Memory) old h = λ next. begins_with_none _ old old refl
 
 -- a file that was fetched, and one that is too long
 pub fetched_whole : (files : Files) (name : List ℕ) (limit : ℕ) (bytes : List ℕ) (next : List ℕ → Outcome) → files name ≡ Some bytes → length bytes ≤ limit →
@@ -109,3 +109,14 @@ fetched_long files name limit n next above h = ap (after (Fetch name limit ∷ [
     go (Some bytes) e =
         let same : length bytes ≡ n = cc in
         ap (λ b. if b then refused name (too_long_text limit) else next bytes) (lt-ltb limit (length bytes) (rw same above))
+
+-- an image was moved without a call
+pub moved_comes : (name out : List ℕ) (image : Image) (g : Description) (r : Result Said Stop) (old : Shown) → IsMoved name out image g r → ComesTo (if_it_has_units name out image g (first_lacking image g)) r old old
+moved_comes name out image g (Ok said) old h = (if_it_has_units name out image g (first_lacking image g), h, leads_to_itself _ old)
+moved_comes name out image g (Err (Refused line)) old h = leads_to_same _ _ old old h refl
+moved_comes name out image g (Err Fault) old h = absurd h
+moved_comes name out image g (Err Memory) old h = begins_with_none _ old old refl
+
+-- a command that keeps nothing ends with its text
+pub says_ending : (said : Said) (text : List ℕ) → said.kept ≡ None → said.text.items ≡ text → IsEnding said (says 0 text)
+says_ending said text none same = record { kept = None; keeps = subst (λ k. MayKeep k None) (sym none) tt; same = ap (says 0) (sym same) }

@@ -1,16 +1,21 @@
 -- How far a command has come. For contracts within the crate.
-use Rattle.std.specs.Prelude.{ℕ, ◌≡◌, List, take, Result, Ok, Err, option_map}
+use Rattle.std.specs.Prelude.{ℕ, ◌≡◌, List, take, Option, Some, None, Result, Ok, Err}
 use Rattle.std.specs.Option.{ForSome}
 use Rattle.tnk_base.specs.declared.host.Asked.{Asked}
 use Rattle.tnk_base.specs.Host.{Files, Shown, Stands, HasCause}
+use Rattle.machine_desc.specs.declared.Mdes.{Mdes}
+use Rattle.machine_desc.specs.Description.{Description}
+use Rattle.machine_desc.specs.Value.{description_of}
+use Rattle.machine_desc.specs.File.{read_description}
 use Rattle.image_format.specs.Image.{Image}
+use Rattle.image_check.specs.Units.{first_lacking}
 use Rattle.image_check.specs.Rules.{first_broken}
 use Rattle.tinker_top.specs.declared.steps.Said.{Said}
 use Rattle.tinker_top.specs.declared.steps.Keeping.{Keeping}
 use Rattle.tinker_top.specs.declared.steps.Stop.{Stop}
 use Rattle.tinker_top.specs.declared.steps.Stop.TheVariants.{Refused, Fault, Memory}
-use Rattle.tinker_top.specs.Outcome.{Outcome, Kept, ends, says, after}
-use Rattle.tinker_top.specs.Command.{if_accepted}
+use Rattle.tinker_top.specs.Outcome.{Outcome, Kept, HasContent, ends, says, after}
+use Rattle.tinker_top.specs.Command.{if_accepted, if_described, if_it_has_units}
 use Rattle.tinker_top.specs.Top.{asked_too}
 
 -- the host was only read: its files and its output stand, and a fault has its cause
@@ -18,12 +23,22 @@ pub record Reads (old new : Shown) (Failed : Type 0) : Type 0 where
   pub stands : Stands old new
   pub cause : HasCause old.faults new.faults Failed
 
--- the file that a command keeps, and what it ends with
-abbrev pub kept_by : Keeping → Kept
-kept_by k = record { name = k.name.now; bytes = k.bytes.items }
+-- the file that a command keeps is this one
+pub record IsKeeping (keeping : Keeping) (k : Kept) : Type 0 where
+  pub name : keeping.name.now ≡ k.name
+  pub content : HasContent k.content keeping.bytes.items
 
-abbrev pub ending : Said → Outcome
-ending said = ends (option_map kept_by said.kept) 0 said.text.items
+-- and so with the one that it may keep
+abbrev pub MayKeep : Option Keeping → Option Kept → Type 0
+MayKeep None None = Unit {0}
+MayKeep (Some keeping) (Some k) = IsKeeping keeping k
+MayKeep _ _ = ⊥
+
+-- what a command ends with is this outcome
+pub record IsEnding (said : Said) (o : Outcome) : Type 0 where
+  pub kept : Option Kept
+  pub keeps : MayKeep said.kept kept
+  pub same : o ≡ ends kept 0 said.text.items
 
 -- the outcome is some calls, which were made, and then the rest
 pub record Leads (o rest : Outcome) (old new : Shown) : Type 0 where
@@ -38,7 +53,7 @@ pub record Begins (o : Outcome) (old new : Shown) : Type 0 where
 
 -- a command has come to its end but for the keep and the put, or it was stopped on its way
 abbrev pub ComesTo : Outcome → Result Said Stop → Shown → Shown → Type 0
-ComesTo o (Ok said) old new = Leads o (ending said) old new
+ComesTo o (Ok said) old new = (rest : Outcome) × IsEnding said rest × Leads o rest old new
 ComesTo o (Err (Refused line)) old new = Leads o (says 1 line.items) old new
 ComesTo o (Err Fault) old new = Begins o old new
 ComesTo o (Err Memory) old new = Begins o old new
@@ -56,9 +71,24 @@ GivesTo view step (Err Memory) old new = (next : _) → Begins (step next) old n
 abbrev pub HasGiven : {V X : Type 0} → (view : V → X) (step : Files → (X → Outcome) → Outcome) → Result V Stop → Shown → Shown → Type 0
 HasGiven view step result old new = ForSome old.files (λ files. GivesTo view (step files) result old new)
 
+-- a step without a call has given a value, or it refuses a file
+abbrev pub IsDecided : {V X : Type 0} → (view : V → X) (step : (X → Outcome) → Outcome) → Result V Stop → Type 0
+IsDecided view step (Ok v) = (next : _) → step next ≡ next (view v)
+IsDecided view step (Err (Refused line)) = (next : _) → step next ≡ says 1 line.items
+IsDecided view step (Err Fault) = ⊥
+IsDecided view step (Err Memory) = Unit {0}
+
 -- a file is an accepted image, or it is refused for the first rule that it breaks
 abbrev pub IsJudged : (name bytes : List ℕ) → Result Image Stop → Type 0
-IsJudged name bytes (Ok image) = (next : Image → Outcome) → if_accepted name next bytes (first_broken bytes) ≡ next image
-IsJudged name bytes (Err (Refused line)) = (next : Image → Outcome) → if_accepted name next bytes (first_broken bytes) ≡ says 1 line.items
-IsJudged name bytes (Err Fault) = ⊥
-IsJudged name bytes (Err Memory) = Unit {0}
+IsJudged name bytes = IsDecided (λ (image : Image). image) (λ next. if_accepted name next bytes (first_broken bytes))
+
+-- a file has a description, or it is refused for its first fault
+abbrev pub IsDescribed : (name bytes : List ℕ) → Result Mdes Stop → Type 0
+IsDescribed name bytes = IsDecided description_of (λ next. if_described name next (read_description bytes))
+
+-- an image is in the form for a generation, or it is refused for the first unit kind that the generation lacks
+abbrev pub IsMoved : (name out : List ℕ) → Image → Description → Result Said Stop → Type 0
+IsMoved name out image g (Ok said) = IsEnding said (if_it_has_units name out image g (first_lacking image g))
+IsMoved name out image g (Err (Refused line)) = if_it_has_units name out image g (first_lacking image g) ≡ says 1 line.items
+IsMoved name out image g (Err Fault) = ⊥
+IsMoved name out image g (Err Memory) = Unit {0}

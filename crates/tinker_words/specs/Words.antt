@@ -12,6 +12,14 @@ pub record Setup : Type 0 where
   pub input : Option (List ℕ)
   pub settings : Settings
 
+-- the generation for which a command works: the image's own, one that is built in, or that of a description file
+pub data Target : Type 0 where
+  Own : Target
+  T1 : Target
+  T2 : Target
+  T3 : Target
+  File : (name : List ℕ) → Target
+
 -- the commands
 pub data Command : Type 0 where
   Help : Command
@@ -19,6 +27,7 @@ pub data Command : Type 0 where
   Check : (image : List ℕ) → Command
   Meaning : Setup → Command
   Run : Setup → Command
+  Resched : (image : List ℕ) → Target → (out : List ℕ) → Command
 
 -- a word that names a file isn't empty
 abbrev pub is_name : List ℕ → Bool
@@ -71,6 +80,20 @@ abbrev pub run_words : Settings → List (List ℕ) → Option Command
 run_words s (image ∷ (generation ∷ (input ∷ []))) = run_form s image generation input
 run_words s _ = None
 
+-- the generation that a word names
+abbrev pub target_named : List ℕ → Target
+target_named word =
+    if bytes_eq word (codes "own") then Own else
+    (if bytes_eq word (codes "t1") then T1 else
+    (if bytes_eq word (codes "t2") then T2 else
+    (if bytes_eq word (codes "t3") then T3 else File word)))
+
+-- `IMAGE GENERATION OUT`
+abbrev pub resched_words : List (List ℕ) → Option Command
+resched_words (image ∷ (generation ∷ (out ∷ []))) =
+    if is_name image && (is_name generation && is_name out) then Some (Resched image (target_named generation) out) else None
+resched_words _ = None
+
 -- the settings, and then the other words
 abbrev pub behind_settings : (Settings → List (List ℕ) → Option Command) → List (List ℕ) → Option Command
 behind_settings others words = elim (settings run_kinds unset words) [ None ↦ None | Some r ↦ others r.0 r.1 ]
@@ -81,6 +104,7 @@ command_of (verb ∷ words) =
     if bytes_eq verb (codes "check") then check_words words else
     (if bytes_eq verb (codes "meaning") then behind_settings meaning_words words else
     (if bytes_eq verb (codes "run") then behind_settings run_words words else
+    (if bytes_eq verb (codes "resched") then resched_words words else
     (if bytes_eq verb (codes "--help") then alone Help words else
-    (if bytes_eq verb (codes "--version") then alone Version words else None))))
+    (if bytes_eq verb (codes "--version") then alone Version words else None)))))
 command_of [] = None

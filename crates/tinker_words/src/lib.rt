@@ -8,4 +8,4 @@ mod settings;
 mod words;
 
 pub use settings::{Number, Settings};
-pub use words::{Command, Form, Setup, parse};
+pub use words::{Command, Form, Setup, Target, parse};

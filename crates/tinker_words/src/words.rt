@@ -2,8 +2,8 @@
 ghost use Rattle.std.specs.Prelude.{◌≡◌, Option, map, string_bytes, option_map};
 ghost use Rattle.std.specs.List.{list_any};
 ghost use Rattle.tinker_words.specs.Settings.{begins as begins_with};
-ghost use Rattle.tinker_words.specs.Forms.{asked_for};
-ghost use Rattle.tinker_words.specs.Words.{is_name as names_file, setting_names, is_image_name as names_image, input_named, check_words as check_in, meaning_words as meaning_in, is_run as is_run_of, run_form, run_words as run_in, behind_settings, alone, Help, Version, command_of};
+ghost use Rattle.tinker_words.specs.Forms.{asked_for, aimed_at};
+ghost use Rattle.tinker_words.specs.Words.{is_name as names_file, setting_names, is_image_name as names_image, input_named, check_words as check_in, meaning_words as meaning_in, is_run as is_run_of, run_form, run_words as run_in, target_named, resched_words, behind_settings, alone, Help, Version, command_of};
 
 use super::settings::{Kind, Number, Settings, begins};
 use std::marker::Model;
@@ -25,6 +25,18 @@ impl<'a> Model for Setup<'a> {
     ghost view = { λ s. record { image = s.image.now; input = option_map (λ name. name.now) s.input; settings = s.settings } };
 }
 
+/// The generation for which a command works.
+#[derive(Clone, Copy, Debug)]
+pub enum Target<'a> {
+    /// The image's own.
+    Own,
+    T1,
+    T2,
+    T3,
+    /// That of a description file.
+    File(&'a str),
+}
+
 /// The forms that words may have.
 #[derive(Debug, Drop)]
 pub enum Form<'a> {
@@ -33,6 +45,8 @@ pub enum Form<'a> {
     Check(&'a str),
     Meaning(Setup<'a>),
     Run(Setup<'a>),
+    /// An image, the generation for which it is rescheduled, and the file of the image for that.
+    Resched(&'a str, Target<'a>, &'a str),
 }
 
 /// What the words ask for.
@@ -168,6 +182,35 @@ fn run_words(settings: Settings, words: &[String]) -> Option<Form<'_>>
     )
 }
 
+/// The generation that a word names.
+fn named_target(word: &str) -> Target<'_>
+    ensures { aimed_at result ≡ target_named word.now }
+{
+    match word {
+        "own" => Target::Own,
+        "t1" => Target::T1,
+        "t2" => Target::T2,
+        "t3" => Target::T3,
+        _ => Target::File(word),
+    }
+}
+
+fn resched(words: &[String]) -> Option<Form<'_>>
+    ensures { option_map asked_for result ≡ resched_words (map string_bytes words.now) }
+{
+    match words {
+        [image, generation, out]
+            if is_name(image.as_str()) && is_name(generation.as_str()) && is_name(out.as_str()) => {
+            Some(Form::Resched(
+                image.as_str(),
+                named_target(generation.as_str()),
+                out.as_str(),
+            ))
+        }
+        _ => None,
+    }
+}
+
 fn meaning(words: &[String]) -> Option<Form<'_>>
     ensures { option_map asked_for result ≡ behind_settings meaning_in (map string_bytes words.now) }
 {
@@ -195,6 +238,7 @@ fn form_of(words: &[String]) -> Option<Form<'_>>
             "check" => check(others),
             "meaning" => meaning(others),
             "run" => run(others),
+            "resched" => resched(others),
             "--help" => help(others),
             "--version" => version(others),
             _ => None,

@@ -7,6 +7,7 @@
 // `report` tell what is wrong.
 #![tactic(auto)]
 
+mod chains;
 mod compare;
 mod content;
 mod files;

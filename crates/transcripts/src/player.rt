@@ -1,4 +1,5 @@
 // Plays the commands of a transcript over its files.
+use super::chains::Chains;
 use super::compare::{compare_file, compare_run};
 use super::content::Content;
 use super::files::{Files, Part};
@@ -65,6 +66,8 @@ struct Player<'a> {
     failing: Vec<u64>,
     /// The first parts that the next run is made over.
     prefixes: Option<Prefixes<'a>>,
+    /// The chains that the next run is made behind.
+    chains: Option<Chains<'a>>,
     /// What differs at the command that is played.
     differs: String,
     /// How many runs were made.
@@ -79,6 +82,7 @@ impl<'a> Player<'a> {
             files: Files::new(alloc),
             failing: Vec::new(alloc),
             prefixes: None,
+            chains: None,
             differs: String::new(alloc),
             runs: 0,
         }
@@ -117,6 +121,7 @@ impl<'a> Player<'a> {
             Verb::Absent => self.absent(words, block),
             Verb::Failing => self.failing(words, block),
             Verb::Prefixes => self.prefixes(words, block),
+            Verb::Chains => self.chains(words, block),
         }
     }
 
@@ -177,6 +182,16 @@ impl<'a> Player<'a> {
         }
     }
 
+    fn chains(&mut self, words: &'a str, block: &Block) -> Result<(), Trouble> {
+        block.alone()?;
+        block.used()?;
+        self.chains = Chains::read(words);
+        match self.chains {
+            Some(_) => Ok(()),
+            None => Err(Trouble::Unreadable(0)),
+        }
+    }
+
     fn tinker(&mut self, words: &str, lines: &[&str]) -> Result<(), Trouble> {
         let words = owned(self.alloc, words)?;
         let ran = self.run(&Run {
@@ -185,18 +200,63 @@ impl<'a> Player<'a> {
         });
         self.failing.clear();
         self.prefixes = None;
+        self.chains = None;
         ran
     }
 
-    /// Makes a run, over each first part where there are some.
+    /// Makes a run, over each first part or behind each chain where there are some.
     fn run(&mut self, run: &Run) -> Result<(), Trouble> {
-        match self.prefixes {
-            Some(prefixes) => self.run_over(&prefixes, run),
-            None => {
-                let host = self.files.host(run.words, &self.failing)?;
-                self.run_on(host, run)
+        match (self.prefixes, self.chains) {
+            (Some(prefixes), _) => self.run_over(&prefixes, run),
+            (None, Some(chains)) => self.run_behind(&chains, run),
+            (None, None) => self.run_once(run),
+        }
+    }
+
+    fn run_once(&mut self, run: &Run) -> Result<(), Trouble> {
+        let host = self.files.host(run.words, &self.failing)?;
+        self.run_on(host, run)
+    }
+
+    /// Runs behind each two of the generations, up to the first that differs.
+    fn run_behind(&mut self, chains: &Chains, run: &Run) -> Result<(), Trouble> {
+        for first in chains.generations.split(' ') {
+            for second in chains.generations.split(' ') {
+                if let Err(trouble) = self.run_through(chains, first, second, run) {
+                    writeln!(self.differs, "through {first} and {second}")?;
+                    return Err(trouble);
+                }
             }
         }
+        Ok(())
+    }
+
+    /// Runs behind two generations.
+    fn run_through(
+        &mut self,
+        chains: &Chains,
+        first: &str,
+        second: &str,
+        run: &Run,
+    ) -> Result<(), Trouble> {
+        self.resched(chains.image, first, chains.name)?;
+        self.resched(chains.name, second, chains.name)?;
+        self.run_once(run)
+    }
+
+    /// Reschedules an image for a generation, which is to be done with the status 0.
+    fn resched(&mut self, image: &str, generation: &str, out: &str) -> Result<(), Trouble> {
+        let text = format!(in self.alloc; "resched {image} {generation} {out}")?;
+        let words = owned(self.alloc, text.as_str())?;
+        let mut host = self.files.host(&words, &[])?;
+        let status = tinker(self.alloc, &mut host, &words);
+        self.runs = self.runs.saturating_add(1);
+        self.files.take_kept(&host)?;
+        if status != 0 {
+            writeln!(self.differs, "{text}: status {status}")?;
+            return Err(Trouble::Differs);
+        }
+        Ok(())
     }
 
     /// Runs over each first part, up to the first that differs.

@@ -13,15 +13,17 @@ pub enum Verb {
     Absent,
     Failing,
     Prefixes,
+    Chains,
 }
 
-const VERBS: [(&str, Verb); 6] = [
+const VERBS: [(&str, Verb); 7] = [
     ("tinker", Verb::Tinker),
     ("file", Verb::File),
     ("holds", Verb::Holds),
     ("absent", Verb::Absent),
     ("failing", Verb::Failing),
     ("prefixes", Verb::Prefixes),
+    ("chains", Verb::Chains),
 ];
 
 impl Verb {

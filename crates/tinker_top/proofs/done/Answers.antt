@@ -2,19 +2,21 @@ use Rattle.std.proofs.Common.{Err, subst}
 use Rattle.tinker_top.specs.Outcome.{says}
 use Rattle.tinker_top.specs.Command.{outcome_of}
 use Rattle.tinker_top.specs.Top.{IsDone, IsPartOf}
-use Rattle.tinker_top.specs.Steps.{ending, ComesTo}
+use Rattle.tinker_top.specs.Steps.{ComesTo}
 use Rattle.tinker_top.proofs.Ends.{then_done, then_part, stopped_part}
 use Rattle.tinker_top.proofs.done.Goals as goal
 
 pub returns-in-Ok-clause-done : goal.returns-in-Ok-clause-done
 returns-in-Ok-clause-done g c = λ below files told.
-    then_done (outcome_of c.args.command.now files) (ending c.in-Ok.said) (g.H.Host.shows c.args.host.now) (g.H.Host.shows c.perform.new.host) (g.H.Host.shows c.end.new.host)
-    (c.in-Ok.ensures.come files told) c.in-Ok.ensures.reads.stands c.end.result (c.end.ensures.done below)
+    let come = c.in-Ok.ensures.come files told in
+    then_done (outcome_of c.args.command.now files) come.0 (g.H.Host.shows c.args.host.now) (g.H.Host.shows c.perform.new.host) (g.H.Host.shows c.end.new.host)
+    come.2 c.in-Ok.ensures.reads.stands c.end.result (c.end.ensures.done come.0 come.1 below)
 
 pub returns-in-Ok-clause-part : goal.returns-in-Ok-clause-part
 returns-in-Ok-clause-part g c = λ files told.
-    then_part (outcome_of c.args.command.now files) (ending c.in-Ok.said) (g.H.Host.shows c.args.host.now) (g.H.Host.shows c.perform.new.host) (g.H.Host.shows c.end.new.host)
-    (c.in-Ok.ensures.come files told) c.in-Ok.ensures.reads.stands c.end.ensures.part
+    let come = c.in-Ok.ensures.come files told in
+    then_part (outcome_of c.args.command.now files) come.0 (g.H.Host.shows c.args.host.now) (g.H.Host.shows c.perform.new.host) (g.H.Host.shows c.end.new.host)
+    come.2 c.in-Ok.ensures.reads.stands (c.end.ensures.part come.0 come.1)
 
 pub returns-in-Err-Refused-clause-done : goal.returns-in-Err-Refused-clause-done
 returns-in-Err-Refused-clause-done g c = λ below files told.

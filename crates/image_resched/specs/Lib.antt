@@ -1,0 +1,3 @@
+pub mod Rescheduled
+pub mod Laws
+pub mod Forms

@@ -1,0 +1,17 @@
+pub mod Settings
+pub mod Delays
+pub mod Movable
+pub mod Kept
+pub mod Moved
+pub mod Renamed
+pub mod Forms
+pub mod Agreeing
+pub mod Words
+pub mod Rules
+pub mod Accepted
+pub mod One
+pub mod Listings
+pub mod Pieces
+pub mod Written
+pub mod Problems
+pub mod Pages

@@ -1,0 +1,4 @@
+pub mod Block
+pub mod Form
+pub mod Laws
+pub mod Writing

@@ -1,0 +1,5 @@
+-- lemmas
+pub mod Rearranged
+pub mod Likeness
+pub mod Shapes
+pub mod Walking

@@ -1,0 +1,5 @@
+use Rattle.size_invariance.proofs.Shapes.{shapes_are_symmetric}
+use Rattle.size_invariance.proofs.laws.shapes_are_symmetric.Goals as goal
+
+pub returns : goal.returns
+returns c = shapes_are_symmetric
