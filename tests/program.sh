@@ -67,6 +67,15 @@ ends 'words without a form' 2 'usage: see the manual' '' "$tinker" check s1.tnk 
 ends 'a missing file' 3 '' "$(fault 'reading nothere: No such file or directory (os error 2)')" "$tinker" check nothere
 shell 'no memory' 4 '' 'tinker: out of memory' 'ulimit -v 5000; exec "$0" check longest'
 
+# A file that is kept: whole, in place of an old one, and read again.
+echo old > kept
+ends 'a kept file' 0 'wrote kept 4141' '' "$tinker" resched s1.tnk t2 kept
+ends 'its size' 0 '4141 kept' '' wc -c kept
+ends 'its run' 0 "${report/cycles 0 3/cycles 0 2}" '' "$tinker" run kept own -
+ends 'a chain back' 0 'wrote kept 4141' '' "$tinker" resched kept t1 kept
+ends 'the run behind it' 0 "${report/cycles 0 3/cycles 0 2}" '' "$tinker" run kept own -
+ends 'a file kept in no folder' 3 '' "$(fault 'writing nowhere/x: No such file or directory (os error 2)')" "$tinker" resched s1.tnk t2 nowhere/x
+
 # What isn't a plain file.
 ends 'a folder' 3 '' "$(fault 'reading folder: Is a directory (os error 21)')" "$tinker" check folder
 ends 'a file in no folder' 3 '' "$(fault 'reading empty/x: Not a directory (os error 20)')" "$tinker" check empty/x

@@ -37,7 +37,8 @@ fn next_used(cycle: &[u32], end: u32, listed: &[u16], m: usize) -> u32
 fn is_first(cycle: &[u32], listed: &[u16], m: usize) -> bool
     requires place { m < length listed.now }
     requires sorted { IsSorted cycle.now listed.now }
-    ensures { IsTrue result ↔ ((i : ℕ) → Among i (take m listed.now) → slice_index cycle.now i ≢ cycle_at cycle.now listed.now m) }
+    ensures { IsTrue result ↔ ((i : ℕ) → Among i (take m listed.now) →
+        slice_index cycle.now i ≢ cycle_at cycle.now listed.now m) }
 {
     m == 0 || cycle[listed[m - 1] as usize] != cycle[listed[m] as usize]
 }
