@@ -79,8 +79,8 @@ def full_pages(description=WIDE):
     return image(256, [(512 * n, adds + [halt(0)]) for n in range(256)], 1_048_576, bytes(1_048_576), description)
 
 
-def dense():
-    """256 blocks of 500 operations, one in each MultiOp, over all registers: about one pair in four is ordered."""
+def dense(count):
+    """256 blocks of so many operations, one in each MultiOp, over all registers: about one pair in four is ordered."""
     draw = random.Random(1)
     make = [
         lambda d, s, t: add(d, s, t),
@@ -91,7 +91,7 @@ def dense():
     ]
     blocks = []
     for n in range(256):
-        block = [draw.choice(make)(*(draw.randrange(1, 32) for _ in range(3))) for _ in range(499)]
+        block = [draw.choice(make)(*(draw.randrange(1, 32) for _ in range(3))) for _ in range(count - 1)]
         blocks.append((512 * n, block + [halt(0)]))
     return image(256, blocks, 1_048_576)
 
@@ -103,8 +103,10 @@ def main():
         "single_words_2": lambda: single_words(BUSY),
         "full_pages": full_pages,
         "full_pages_2": lambda: full_pages(BUSY),
-        "dense": dense,
+        "dense": lambda: dense(500),
     }
+    for count in (32, 64, 128, 256, 512):
+        images[f"dense_{count}"] = lambda count=count: dense(count)
     for name, make in images.items():
         with open(os.path.join(sys.argv[1], name), "wb") as out:
             out.write(make())

@@ -1,9 +1,11 @@
 """Times the built program: `python3 bench/time.py [PROGRAM]`, after `rt ci` or `rt run` has built it.
 
 Each line tells the command, the seconds of the quickest of five runs, and the most memory that it took as a multiple of
-its file. The last line compares the check of an image of many pairs of operations with plain.rs, plain Rust that does the
-search for orders alone; it wants `rustc`. The images are written by another process, so that this one stays small: the
-system counts its memory, some 10 million bytes, as the least that a child takes.
+its file. The last lines compare `check` and `resched` with plain.rs, plain Rust that does the search for orders and the
+schedules alone, over images of 256 blocks of so many operations: the nanoseconds for each operation, of the program and of
+plain.rs by turns, and how many times plain.rs's they are. Both write the same file. It wants `rustc`. The images are
+written by another process, so that this one stays small: the system counts its memory, some 10 million bytes, as the
+least that a child takes.
 """
 
 import os
@@ -35,15 +37,32 @@ def measure(program, folder, words):
     return seconds
 
 
+def least(program, folder, words):
+    return min(run(program, folder, words)[0] for _ in range(RUNS))
+
+
+def same(folder, first, second):
+    with open(os.path.join(folder, first), "rb") as one, open(os.path.join(folder, second), "rb") as other:
+        return one.read() == other.read()
+
+
 def compare(program, here, folder):
-    """The check of `dense` beside plain.rs."""
+    """`check` and `resched` beside plain.rs, as blocks grow."""
     plain = os.path.join(folder, "plain")
     if shutil.which("rustc") is None:
         sys.exit("no rustc: plain.rs isn't compared")
     subprocess.run(["rustc", "--edition", "2024", "-O", "-o", plain, os.path.join(here, "plain.rs")], check=True)
-    seconds = measure(program, folder, ["check", "dense"])
-    least = min(run(plain, folder, ["check", "dense"])[0] for _ in range(RUNS))
-    print(f"plain.rs over dense: {least:.3f} s; the check takes {seconds / least:.1f} times that")
+    print("operations a block; ns an operation of check, plain, ratio; of what resched adds to check, plain, ratio")
+    for name, count in [("dense_32", 32), ("dense_64", 64), ("dense_128", 128), ("dense_256", 256), ("dense", 500), ("dense_512", 512)]:
+        ours, theirs = (
+            [least(one, folder, words) for words in (["check", name], ["resched", name, "t2", out])]
+            for one, out in ((program, "ours"), (plain, "theirs"))
+        )
+        if not same(folder, "ours", "theirs"):
+            sys.exit(f"{name}: the files differ")
+        checks = [1e9 * times[0] / (256 * count) for times in (ours, theirs)]
+        adds = [1e9 * (times[1] - times[0]) / (256 * count) for times in (ours, theirs)]
+        print(count, *(f"{x:.0f}, {y:.0f}, {x / y:.2f};" for x, y in (checks, adds)))
 
 
 def main():
