@@ -133,13 +133,13 @@ fn the_largest_order(rt: HostRuntime) {
 }
 
 /// An operation, one that it comes before, and the delay.
-type Pair = (u16, u16, i8);
+pub(crate) type Pair = (u16, u16, i8);
 
 /// Words and the description that they are made for, another description, and all pairs with their delays under that.
-type Delayed = (Numbers, &'static [u64], Numbers, &'static [Pair]);
+pub(crate) type Delayed = (Numbers, &'static [u64], Numbers, &'static [Pair]);
 
 /// Worked blocks. In the comments `;;` ends a MultiOp and tells its pause, as in assembly text.
-const DELAYED: [Delayed; 28] = [
+pub(crate) const DELAYED: [Delayed; 28] = [
     // A read of what has landed.
     (
         T1,
@@ -504,7 +504,7 @@ const ONE_BLOCK: &[u64] = &[
 ];
 
 /// The delays between those operations under three descriptions, of which the first is their own.
-const LATENT: [Delayed; 3] = [
+pub(crate) const LATENT: [Delayed; 3] = [
     (
         T1,
         ONE_BLOCK,

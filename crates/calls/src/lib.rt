@@ -20,6 +20,8 @@ mod hosts;
 #[cfg(test)]
 mod images;
 #[cfg(test)]
+mod links;
+#[cfg(test)]
 mod meanings;
 #[cfg(test)]
 mod operations;

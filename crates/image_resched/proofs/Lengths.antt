@@ -1,11 +1,11 @@
 -- How long the file of a rescheduled image is.
-use Rattle.std.proofs.Common.{◌≡◌, ℕ, ◌+◌, ◌*◌, List, length, inl, inr, ◌⊎◌, refl, sym, ap, subst, ◌∙◌, arith}
+use Rattle.std.proofs.Common.{◌≡◌, ℕ, List, length, inl, inr, ◌⊎◌, ap, ◌∙◌, arith}
 use Rattle.machine_desc.specs.Description.{Description}
 use Rattle.machine_desc.proofs.Deciding.{cases_description}
 use Rattle.image_format.specs.Image.{Image}
 use Rattle.image_format.specs.Bytes.{bytes_of, needs_two}
 use Rattle.image_format.proofs.NoneBroken.{length_written}
-use Rattle.image_resched.specs.Rescheduled.{IsRescheduled, IsRescheduledFile, with_words}
+use Rattle.image_resched.specs.Rescheduled.{IsRescheduledFile, with_words}
 
 -- only the description can be longer
 pub rescheduled_length : (image : Image) (g : Description) (bytes : List ℕ) → IsRescheduledFile image g bytes → length bytes ≡ length (bytes_of (with_words image g image.words))

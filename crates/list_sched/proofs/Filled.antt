@@ -10,11 +10,13 @@ use Rattle.operation.specs.declared.UnitKind.{UnitKind}
 use Rattle.operation.specs.declared.LatKind.{LatKind}
 use Rattle.machine_desc.specs.Description.{Description}
 use Rattle.serial_order.specs.Table.{Table, delay_of}
-use Rattle.list_sched.specs.declared.links.Link.{Link}
-use Rattle.list_sched.specs.declared.links.Links.{Links}
-use Rattle.list_sched.specs.Links.{row, delay_to, LeadInside, AreLinks, links_below, linked}
-use Rattle.list_sched.specs.Given.{problem_of, unit_in, kind_in}
-use Rattle.list_sched.specs.Schedule.{Problem}
+use Rattle.block_links.specs.declared.links.Link.{Link}
+use Rattle.block_links.specs.declared.links.Links.{Links}
+use Rattle.block_links.specs.Links.{row, delay_to, delay_along, LeadInside, AreLinks, is_linked}
+use Rattle.block_links.proofs.Rows.{along_linked}
+use Rattle.list_sched.specs.Links.{links_below, linked}
+use Rattle.list_sched.specs.Given.{problem_of, unit_in, kind_in, latency_in}
+use Rattle.list_sched.specs.Schedule.{Problem, is_before}
 use Rattle.list_sched.proofs.Rows.{below_all, below_lead, below_few}
 use Rattle.list_sched.proofs.Climbs.{delay_inside}
 
@@ -85,20 +87,21 @@ module _ (d : Table) (l : Links) (f : IsFilled d l.starts.items l.links.items d.
   pub filled_links : AreLinks l d.count
   filled_links = record {
     size = f.size;
+    few = few;
     ends = f.ends;
     inside = f.inside;
     lead = λ i lt. subst (LeadInside d.count) (sym (f.rows i lt)) (below_lead d i d.count (omega arith));
-    few = let m = f.few in let s : d.count * d.count ≤ 512 * 512 = square d.count few in omega arith;
+    small = let m = f.few in let s : d.count * d.count ≤ 512 * 512 = square d.count few in omega arith;
   }
     where
       square : (n : ℕ) → n ≤ 512 → n * n ≤ 512 * 512
       square n le = mul-le-mul le le
 
-  pub filled_delays : (i j : ℕ) → delay_to (row l i) j ≡ delay_of d i j
+  pub filled_delays : (latency : ℕ → ℕ) (i j : ℕ) → delay_along latency l i j ≡ delay_of d i j
   unfolding delay_to
-  filled_delays i j = elim (cases_lt i d.count) [
-    | inl lt ↦ ap (λ r. delay_to r j) (f.rows i lt) ∙ below_all d i j
-    | inr ge ↦ ap (λ r. delay_to r j) (nothing ge) ∙ none (delay_of d i j) refl ge
+  filled_delays latency i j = elim (cases_lt i d.count) [
+    | inl lt ↦ ap (λ r. delay_to latency i r j) (f.rows i lt) ∙ below_all d i latency j
+    | inr ge ↦ ap (λ r. delay_to latency i r j) (nothing ge) ∙ none (delay_of d i j) refl ge
   ]
     where
       nothing : d.count ≤ i → row l i ≡ []
@@ -107,15 +110,19 @@ module _ (d : Table) (l : Links) (f : IsFilled d l.starts.items l.links.items d.
           let width : slice_index l.starts.items (i + 1) - slice_index l.starts.items i ≡ 0 = omega arith in
           ap (λ n. take n (drop (slice_index l.starts.items i) l.links.items)) width
 
-      none : (o : Option ℤ) → delay_of d i j ≡ o → d.count ≤ i → delay_to [] j ≡ delay_of d i j
+      none : (o : Option ℤ) → delay_of d i j ≡ o → d.count ≤ i → delay_to latency i [] j ≡ delay_of d i j
       none None e ge = sym e
       none (Some x) e ge = absurd (let q = (delay_inside d i j x e).0 in omega arith)
 
 -- so what they make a problem is the table's
-pub same_problem : (l : Links) (d : Table) (kinds : List (UnitKind × LatKind)) (g : Description) → length kinds ≡ d.count → ((i j : ℕ) → delay_to (row l i) j ≡ delay_of d i j) →
+pub same_problem : (l : Links) (d : Table) (kinds : List (UnitKind × LatKind)) (g : Description) → length kinds ≡ d.count → ((latency : ℕ → ℕ) (i j : ℕ) → delay_along latency l i j ≡ delay_of d i j) →
     problem_of d kinds g ≡ linked l kinds g
 same_problem l d kinds g count same =
-    ap (λ (n : ℕ). with_delays n (delay_of d)) (sym count) ∙ ap (with_delays (length kinds)) (fun_ext (λ i. fun_ext (λ j. sym (same i j))))
+    ap (λ (n : ℕ). with_delays n (delay_of d)) (sym count) ∙ ap (with_delays (length kinds)) (fun_ext (λ i. fun_ext (λ j. sym (same (latency_in kinds g) i j))))
   where
     with_delays : ℕ → (ℕ → ℕ → Option ℤ) → Problem
     with_delays n delay = record { count = n; delay = delay; unit = unit_in kinds; kind = kind_in kinds; machine = g }
+
+-- one operation is before another exactly where a link leads to it
+pub before_linked : (l : Links) (kinds : List (UnitKind × LatKind)) (g : Description) → is_before (linked l kinds g) ≡ is_linked l
+before_linked l kinds g = fun_ext (λ i. fun_ext (λ j. along_linked (latency_in kinds g) l i j))

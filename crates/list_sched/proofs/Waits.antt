@@ -15,18 +15,20 @@ use Rattle.serial_order.specs.Counts.{waiting, one_where}
 use Rattle.serial_order.proofs.Counting.{one_true, count_placed, zero_all, positive_one}
 use Rattle.serial_order.proofs.Members.{has_among, not_among, not_has, among_push, among_left as among_kept, among_last, has_push_same, has_push_other}
 use Rattle.serial_order.proofs.Onto.{among_left}
-use Rattle.list_sched.specs.declared.links.Link.{Link}
-use Rattle.list_sched.specs.declared.links.Links.{Links}
+use Rattle.block_links.specs.declared.links.Link.{Link}
+use Rattle.block_links.specs.declared.links.Links.{Links}
+use Rattle.block_links.specs.Links.{row, delay_of, delay_along}
+use Rattle.block_links.proofs.Rows.{at_most, one_has, along_linked, counted_linked, linked_counted}
+use Rattle.block_links.proofs.Counted.{links_of}
 use Rattle.list_sched.specs.Extremes.{IsLeast}
 use Rattle.list_sched.specs.Schedule.{Problem, IsProblem, IsNext, IsReady, ArePlaced, IsBefore}
-use Rattle.list_sched.specs.Given.{unit_in}
-use Rattle.list_sched.specs.Links.{row, delay_to, count_to, linked}
+use Rattle.list_sched.specs.Given.{unit_in, latency_in}
+use Rattle.list_sched.specs.Links.{linked}
 use Rattle.list_sched.specs.Steps.{IsHeldBack}
 use Rattle.list_sched.specs.Queue.{Entry, IsQueue, AreFreed, IsFirst, IsBranchLeft, entries_of, is_branch, can_go, is_freed}
 use Rattle.list_sched.proofs.Exists.{next_of}
 use Rattle.list_sched.proofs.Places.{has_delay, place_of}
 use Rattle.list_sched.proofs.Serial.{both_inside}
-use Rattle.list_sched.proofs.Rows.{at_most, one_has, counted_delay, delay_counted}
 use Rattle.list_sched.proofs.Steps.{some_left}
 use Rattle.list_sched.proofs.Queues.{entry_inside}
 use Rattle.list_sched.proofs.Plans.{Allowed}
@@ -47,24 +49,20 @@ not_false false e = refl
 abbrev pub due : List (UnitKind × LatKind) → (waits order : List ℕ) → ℕ → ℕ
 due kinds waits order j = one_where (not (has j order) && can_go kinds waits j)
 
--- what was counted for whom
-abbrev pub links_of : Links → ℕ → ℕ → ℕ
-links_of l i j = count_to (row l i) j
-
 -- ---- the state
 
-pub record IsWaiting (l : Links) (kinds : List (UnitKind × LatKind)) (heights order cycle waits least : List ℕ) (queue : List Entry) : Type 0 where
+pub record IsWaiting (l : Links) (kinds : List (UnitKind × LatKind)) (g : Description) (heights order cycle waits least : List ℕ) (queue : List Entry) : Type 0 where
   pub waits_size : length waits ≡ length kinds
   pub least_size : length least ≡ length kinds
   pub counted : (j : ℕ) → slice_index waits j ≡ waiting (links_of l) order j (length kinds)
-  pub bound : (k j : ℕ) (d : ℤ) → Among k order → delay_to (row l k) j ≡ Some d → (pos (slice_index cycle k) +ℤ d) ≤ℤ pos (slice_index least j)
-  pub tight : (j m : ℕ) → ((k : ℕ) (d : ℤ) → Among k order → delay_to (row l k) j ≡ Some d → (pos (slice_index cycle k) +ℤ d) ≤ℤ pos m) → slice_index least j ≤ m
+  pub bound : (k j : ℕ) (d : ℤ) → Among k order → delay_along (latency_in kinds g) l k j ≡ Some d → (pos (slice_index cycle k) +ℤ d) ≤ℤ pos (slice_index least j)
+  pub tight : (j m : ℕ) → ((k : ℕ) (d : ℤ) → Among k order → delay_along (latency_in kinds g) l k j ≡ Some d → (pos (slice_index cycle k) +ℤ d) ≤ℤ pos m) → slice_index least j ≤ m
   pub queued : IsQueue heights queue
   pub entries : (j : ℕ) → j < length kinds → entries_of queue j ≡ due kinds waits order j
 
 module _ (l : Links) (kinds : List (UnitKind × LatKind)) (g : Description) (ok : IsProblem (linked l kinds g)) (heights order cycle : List ℕ)
     (placed : ArePlaced (linked l kinds g) (slice_index heights) (slice_index cycle) [] order)
-    (waits least : List ℕ) (queue : List Entry) (s : IsWaiting l kinds heights order cycle waits least queue) where
+    (waits least : List ℕ) (queue : List Entry) (s : IsWaiting l kinds g heights order cycle waits least queue) where
   abbrev p : Problem
   p = linked l kinds g
 
@@ -74,15 +72,22 @@ module _ (l : Links) (kinds : List (UnitKind × LatKind)) (g : Description) (ok 
   abbrev n : ℕ
   n = length kinds
 
+  -- links lead from one operation to another exactly where it is before it
+  before_counted : (k j : ℕ) → IsBefore p k j → 0 < links_of l k j
+  before_counted k j b = linked_counted (row l k) j (sym (along_linked (latency_in kinds g) l k j) ∙ b)
+
+  counted_before : (k j : ℕ) → 0 < links_of l k j → IsBefore p k j
+  counted_before k j more = along_linked (latency_in kinds g) l k j ∙ counted_linked (row l k) j more
+
   -- an operation waits exactly for those before it that aren't placed
   pub after_all : (j : ℕ) → slice_index waits j ≡ 0 → (k : ℕ) → IsBefore p k j → Among k order
-  after_all j z k b = zero_all (links_of l) order j n (sym (s.counted j) ∙ z) k (both_inside p ok k j b).0 (delay_counted (row l k) j b)
+  after_all j z k b = zero_all (links_of l) order j n (sym (s.counted j) ∙ z) k (both_inside p ok k j b).0 (before_counted k j b)
 
   pub waits_none : (j : ℕ) → ((k : ℕ) → IsBefore p k j → Among k order) → slice_index waits j ≡ 0
   waits_none j f = s.counted j ∙ go (cases_lt 0 (waiting (links_of l) order j n))
     where
       go : (0 < waiting (links_of l) order j n) ⊎ (waiting (links_of l) order j n ≤ 0) → waiting (links_of l) order j n ≡ 0
-      go (inl more) = absurd (let q = positive_one (links_of l) order j n more in q.3 (f q.0 (counted_delay (row l q.0) j q.2)))
+      go (inl more) = absurd (let q = positive_one (links_of l) order j n more in q.3 (f q.0 (counted_before q.0 j q.2)))
       go (inr none) = omega arith
 
   -- those that are placed wait for none
@@ -167,7 +172,7 @@ module _ (l : Links) (kinds : List (UnitKind × LatKind)) (g : Description) (ok 
   -- the least cycle that the delays allow
   pub least_allowed : (i : ℕ) → IsNext p h order i → IsLeast (Allowed p (slice_index cycle) i) (slice_index least i)
   least_allowed i next = record {
-    holds = λ k d e. s.bound k i d (next.ready.after_all k (has_delay (delay_to (row l k) i) d e)) e;
+    holds = λ k d e. s.bound k i d (next.ready.after_all k (has_delay (delay_along (latency_in kinds g) l k i) d e)) e;
     least = λ m f. s.tight i m (λ k d a e. f k d e);
   }
 
@@ -211,7 +216,7 @@ module _ (l : Links) (kinds : List (UnitKind × LatKind)) (g : Description) (ok 
 
       module _ (waits' : List ℕ) (size' : length waits' ≡ length waits) (off : (j : ℕ) → slice_index waits' j + links_of l i j ≡ slice_index waits j)
           (queue' : List Entry) (queued' : IsQueue heights queue') (freed : AreFreed kinds waits waits' mid queue')
-          (least' : List ℕ) (c : ℕ) (held : IsHeldBack (row l i) c least least')
+          (least' : List ℕ) (c : ℕ) (held : IsHeldBack (delay_of (latency_in kinds g) i) (row l i) c least least')
           (cycle' : List ℕ) (agree : (k : ℕ) → Among k order → slice_index cycle k ≡ slice_index cycle' k) (here : slice_index cycle' i ≡ c) where
         abbrev order' : List ℕ
         order' = order ++ i ∷ []
@@ -238,7 +243,7 @@ module _ (l : Links) (kinds : List (UnitKind × LatKind)) (g : Description) (ok 
                 let none : entries_of mid j ≡ 0 = others_stay j ne ∙ (s.entries j below ∙ (rw (m, waits_still) refl)) in
                 rw (none, has_push_other order i j ne, m, lt-ltb 0 (slice_index waits j) some) (omega arith)
 
-        pub next_waiting : IsWaiting l kinds heights order' cycle' waits' least' queue'
+        pub next_waiting : IsWaiting l kinds g heights order' cycle' waits' least' queue'
         next_waiting = record {
           waits_size = size' ∙ s.waits_size;
           least_size = held.size ∙ s.least_size;
@@ -246,9 +251,9 @@ module _ (l : Links) (kinds : List (UnitKind × LatKind)) (g : Description) (ok 
           bound = λ k j d a e. elim (among_push order i k a) [
             | inl b ↦ (let q = s.bound k j d b e in let m = held.kept j in let f = agree k b in omega (arith, ints))
             | inr same ↦
-                (let r = one_has (row l i) j d (subst (λ x. delay_to (row l x) j ≡ Some d) (sym same) e) in
-                let b = All-contains (λ (x : Link). (x.delay +ℤ pos c) ≤ℤ pos (slice_index least' x.to)) (row l i) r.0 held.above r.1 in
-                let b' = subst (λ m. (r.0.delay +ℤ pos c) ≤ℤ pos (slice_index least' m)) r.2 b in
+                (let r = one_has (latency_in kinds g) i (row l i) j d (subst (λ x. delay_along (latency_in kinds g) l x j ≡ Some d) (sym same) e) in
+                let b = All-contains (λ (x : Link). (delay_of (latency_in kinds g) i x +ℤ pos c) ≤ℤ pos (slice_index least' x.to)) (row l i) r.0 held.above r.1 in
+                let b' = subst (λ m. (delay_of (latency_in kinds g) i r.0 +ℤ pos c) ≤ℤ pos (slice_index least' m)) r.2 b in
                 let f = ap (slice_index cycle') (sym same) ∙ here in
                 let g = r.3 in
                 omega (arith, ints))
@@ -256,8 +261,8 @@ module _ (l : Links) (kinds : List (UnitKind × LatKind)) (g : Description) (ok 
           tight = λ j m f. elim (held.one j) [
             | inl e ↦ (let q = s.tight j m (λ k d a g. let x = f k d (among_before k a) g in let y = agree k a in omega (arith, ints)) in omega arith)
             | inr r ↦
-                (let most = at_most (row l i) r.0 r.1 in
-                let x = f i most.0 (among_new) (subst (λ t. delay_to (row l i) t ≡ Some most.0) r.2 most.1) in
+                (let most = at_most (latency_in kinds g) i (row l i) r.0 r.1 in
+                let x = f i most.0 (among_new) (subst (λ t. delay_along (latency_in kinds g) l i t ≡ Some most.0) r.2 most.1) in
                 let e = r.3 in let le = most.2 in let y = here in
                 omega (arith, ints))
           ];
@@ -272,10 +277,10 @@ module _ (l : Links) (kinds : List (UnitKind × LatKind)) (g : Description) (ok 
             among_new = among_last order i
 
 -- nothing is placed
-pub no_waiting : (l : Links) (kinds : List (UnitKind × LatKind)) (heights cycle waits least : List ℕ) (queue : List Entry) → length waits ≡ length kinds → length least ≡ length kinds →
+pub no_waiting : (l : Links) (kinds : List (UnitKind × LatKind)) (g : Description) (heights cycle waits least : List ℕ) (queue : List Entry) → length waits ≡ length kinds → length least ≡ length kinds →
     ((j : ℕ) → slice_index waits j ≡ waiting (links_of l) [] j (length kinds)) → ((j : ℕ) → slice_index least j ≡ 0) → IsQueue heights queue →
-    ((j : ℕ) → j < length kinds → entries_of queue j ≡ one_where (can_go kinds waits j)) → IsWaiting l kinds heights [] cycle waits least queue
-no_waiting l kinds heights cycle waits least queue a b counted zero queued entries = record {
+    ((j : ℕ) → j < length kinds → entries_of queue j ≡ one_where (can_go kinds waits j)) → IsWaiting l kinds g heights [] cycle waits least queue
+no_waiting l kinds g heights cycle waits least queue a b counted zero queued entries = record {
   waits_size = a;
   least_size = b;
   counted = counted;

@@ -1,9 +1,10 @@
 -- What holds of list schedules.
-use Rattle.std.specs.Prelude.{ℕ, ◌≡◌, ◌≢◌, ◌+◌, ◌*◌, ◌<◌, ◌≤◌, ℤ, pos, ◌+ℤ◌, ◌≤ℤ◌, Some, nat_eq, List, slice_index}
+use Rattle.std.specs.Prelude.{ℕ, ◌≡◌, ◌≢◌, ◌+◌, ◌*◌, ◌<◌, ◌≤◌, ℤ, pos, ◌+ℤ◌, ◌≤ℤ◌, Option, Some, nat_eq, List, slice_index}
 use Rattle.serial_order.specs.Lists.{Among, Earlier}
 use Rattle.serial_order.specs.SerialOrder.{IsOrder}
 use Rattle.std.specs.List.{count_by}
 use Rattle.operation.specs.declared.UnitKind.{UnitKind}
+use Rattle.block_links.specs.Cover.{Covers}
 use Rattle.list_sched.specs.Slots.{Slots, Taken, busy_in, empty, AreTaken, is_busy_in}
 use Rattle.list_sched.specs.Schedule.{Problem, Schedule, IsProblem, IsSchedule, is_before, IsBefore, IsBranch, landing}
 
@@ -67,3 +68,13 @@ pub record Counts (taken : List Taken) (s : Slots) (n : ℕ) : Type 0 where
 
 abbrev pub SlotsCount : Type 0
 SlotsCount = (n : ℕ) (taken : List Taken) (s : Slots) → AreTaken taken (empty n) s → Counts taken s n
+
+-- a problem with other delays
+abbrev pub with_delays : Problem → (ℕ → ℕ → Option ℤ) → Problem
+with_delays p delay = record { count = p.count; delay = delay; unit = p.unit; kind = p.kind; machine = p.machine }
+
+-- where links cover the delays of a problem, their delays make a problem, and its schedule is one of the first
+abbrev pub CoveringLinksSchedule : Type 0
+CoveringLinksSchedule =
+    (p : Problem) (along : ℕ → ℕ → Option ℤ) → IsProblem p → Covers along p.delay →
+    IsProblem (with_delays p along) × ((s : Schedule) → IsSchedule (with_delays p along) s → IsSchedule p s)

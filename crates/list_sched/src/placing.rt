@@ -1,15 +1,16 @@
 // Placing one operation after another.
 ghost use Rattle.std.specs.Prelude.{◌≡◌, ◌<◌, ◌≤◌, length, slice_index, vec_capacity};
 ghost use Rattle.list_sched.specs.Schedule.{IsProblem, IsSchedule, AreHeights};
-ghost use Rattle.list_sched.specs.Links.{AreLinks, linked};
+ghost use Rattle.block_links.specs.Links.{AreLinks};
+ghost use Rattle.list_sched.specs.Links.{linked};
 ghost use Rattle.list_sched.specs.Steps.{IsStart};
 ghost use Rattle.list_sched.specs.Work.{IsReadyFor, IsKept};
 ghost use Rattle.list_sched.specs.Planned.{schedule_with};
 
-use crate::links::Links;
-use crate::lists::add;
 use crate::rooms::Rooms;
-use crate::waiting::{Queue, count_all, find_ready, hold_back, next, release};
+use crate::waiting::{Queue, find_ready, hold_back, next, release};
+use block_links::lists::add;
+use block_links::{Links, count_all};
 use machine_desc::Generation;
 use operation::{LatKind, UnitKind};
 
@@ -72,7 +73,7 @@ pub(crate) fn place<G: Generation>(
         let from = start(unit, latency, work.least[i as usize], end);
         let c = work.rooms.find(g, unit, kind, from, 32 * step);
         work.rooms.take(g, c, unit, kind);
-        hold_back(links.of(i), c, &mut work.least);
+        hold_back(links.of(i), i, kinds, g, c, &mut work.least);
         release(
             links.of(i),
             kinds,

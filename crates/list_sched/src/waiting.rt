@@ -2,14 +2,15 @@
 ghost use Rattle.std.specs.Prelude.{◌≡◌, ◌<◌, ◌≤◌, ◌^◌, ◌+◌, ◌⊎◌, ℕ, IsTrue, ◌↔◌, [], length, slice_index, IfOk, vec_capacity};
 ghost use Rattle.std.specs.BinaryHeap.{heap_items, heap_capacity};
 ghost use Rattle.operation.specs.declared.UnitKind.TheVariants as unit;
-ghost use Rattle.serial_order.specs.Counts.{waiting, one_where};
-ghost use Rattle.list_sched.specs.Given.{unit_in};
-ghost use Rattle.list_sched.specs.Links.{LeadInside, AreLinks, row, count_to};
+ghost use Rattle.serial_order.specs.Counts.{one_where};
+ghost use Rattle.block_links.specs.Links.{LeadInside, count_to, delay_of};
+ghost use Rattle.list_sched.specs.Given.{unit_in, latency_in};
 ghost use Rattle.list_sched.specs.Steps.{IsHeldBack};
 ghost use Rattle.list_sched.specs.Queue.{IsQueue, IsMore, AreFreed, IsFirst, IsBranchLeft, entries_of, is_branch, can_go};
 
-use crate::height::climbed;
-use crate::links::{Link, Links};
+use crate::height::{climbed, delay_on};
+use block_links::Link;
+use machine_desc::Generation;
 use operation::{LatKind, UnitKind};
 use std::cmp::Reverse;
 use std::collections::BinaryHeap;
@@ -18,41 +19,26 @@ use std::collections::BinaryHeap;
 /// least number.
 pub(crate) type Queue = BinaryHeap<(u32, Reverse<u16>)>;
 
-/// Counts links at the operations that they lead to.
-fn count_on(links: &[Link], waits: &mut [u32])
-    requires inside { LeadInside (length waits.old) links.now }
-    requires small { (j : ℕ) → slice_index waits.old j + length links.now < 2 ^ 32 }
-    ensures size { length waits.new ≡ length waits.old }
-    ensures counted { (j : ℕ) → slice_index waits.new j ≡ slice_index waits.old j + count_to links.now j }
-{
-    for link in links {
-        waits[link.to as usize] += 1;
-    }
-}
-
-/// Counts for each operation the links that lead to it.
-pub(crate) fn count_all(links: &Links, waits: &mut [u32])
-    requires links { AreLinks links.now (length waits.old) }
-    requires few { length waits.old ≤ 512 }
-    ensures size { length waits.new ≡ length waits.old }
-    ensures counted { (j : ℕ) →
-        slice_index waits.new j ≡ waiting (λ i k. count_to (row links.now i) k) [] j (length waits.old) }
-{
-    waits.fill(0);
-    for i in 0..waits.len() as u16 {
-        count_on(links.of(i), waits);
-    }
-}
-
 /// Holds back those to which the links of an operation that issues in a cycle lead.
-pub(crate) fn hold_back(links: &[Link], cycle: u32, least: &mut [u32])
-    requires inside { LeadInside (length least.old) links.now }
+pub(crate) fn hold_back<G: Generation>(
+    links: &[Link],
+    i: u16,
+    kinds: &[(UnitKind, LatKind)],
+    g: &G,
+    cycle: u32,
+    least: &mut [u32],
+)
+    requires there { i < length kinds.now }
+    requires inside { LeadInside (length kinds.now) links.now }
+    requires size { length least.old ≡ length kinds.now }
     requires small { cycle < 2 ^ 20 }
-    ensures { IsHeldBack links.now cycle least.old least.new }
+    ensures { IsHeldBack (delay_of (latency_in kinds.now (G.description g.now)) i) links.now cycle least.old least.new }
 {
+    let latency = g.latency(kinds[i as usize].1);
     for link in links {
         let to = link.to as usize;
-        least[to] = climbed(least[to], link.delay, cycle);
+        let delay = delay_on(link, latency, kinds, g);
+        least[to] = climbed(least[to], delay, cycle);
     }
 }
 

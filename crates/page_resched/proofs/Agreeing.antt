@@ -10,7 +10,8 @@ use Rattle.latency_deps.proofs.Meetings as meetings
 use Rattle.serial_order.proofs.Members.{among_range, range_among}
 use Rattle.two_timings.specs.Before.{IsSerialOrder}
 use Rattle.machine_desc.specs.Description.{Description}
-use Rattle.page_resched.specs.Block.{delay_among, problem, timing_in}
+use Rattle.latency_deps.specs.Delays.{delay_among}
+use Rattle.page_resched.specs.Block.{problem, timing_in}
 use Rattle.page_resched.specs.Form.{AreInForm}
 use Rattle.page_resched.specs.Laws.{IsMovable, SchedulesAgree}
 use Rattle.page_resched.proofs.Settings.{IsMoved}

@@ -1,23 +1,23 @@
 -- The delays among a block's operations under a generation.
-use Rattle.std.proofs.Common.{◌≡◌, ◌≢◌, ℕ, ◌+◌, ◌*◌, ◌<◌, ◌&&◌, Bool, true, false, cond, length, get_or, refl, sym, ap, subst, ◌∙◌, arith, inl, inr, Option, Some, None}
+use Rattle.std.proofs.Common.{◌≡◌, ◌≢◌, ℕ, ◌<◌, ◌&&◌, Bool, true, false, cond, length, refl, ap, subst, ◌∙◌, arith, inl, inr, Option, Some, None}
 use Rattle.std.specs.Prelude.{ℤ, pos, ◌≤ℤ◌, nat_eq, nat_lt, not, is_some, negsuc, ◌+ℤ◌, ◌-ℤ◌}
 use Rattle.std.proofs.lemmas.Int.{ints, clamps}
-use Rattle.std.proofs.lemmas.Bool.{cases_Bool, lt-ltb, ltb-true, and_from, and_left, and_parts, false≢true, eq-eqb, or_left, or_right}
+use Rattle.std.proofs.lemmas.Bool.{lt-ltb, ltb-true, and_from, and_left, and_parts, false≢true, eq-eqb, or_left, or_right}
 use Rattle.operation.specs.declared.Guarded.{Guarded}
 use Rattle.operation.specs.declared.LatKind.{LatKind}
 use Rattle.operation.specs.Places.{latency_kind, is_store}
 use Rattle.machine_desc.specs.Description.{Description, IsDescription, latency_of}
-use Rattle.serial_order.specs.Table.{Table, delay_of}
 use Rattle.timed_meaning.specs.declared.TimedOp.{TimedOp}
 use Rattle.trap_order.specs.Order.{keep_issue_order}
 use Rattle.latency_deps.specs.Block.{Block, timed_at}
-use Rattle.latency_deps.specs.Breaks.{both_write}
-use Rattle.latency_deps.specs.Before.{comes_before, delay_between, applying, greatest, feeds, keep_list_order}
-use Rattle.latency_deps.specs.Delays.{delay_in, before_in, IsDelayTable}
-use Rattle.latency_deps.specs.Graph.{at_least}
-use Rattle.latency_deps.proofs.Nodes.{greatest_is, greatest_short, delay_there}
-use Rattle.latency_deps.proofs.Meetings.{feed_at, at_both}
-use Rattle.page_resched.specs.Block.{delay_among}
+use Rattle.dependences.specs.Before.{both_write}
+use Rattle.dependences.specs.Before.{comes_before, delay_between, applying, greatest, feeds, keep_list_order}
+use Rattle.latency_deps.specs.Delays.{delay_in, before_in}
+use Rattle.dependences.specs.Graph.{at_least}
+use Rattle.dependences.proofs.Nodes.{greatest_is, greatest_short, delay_there}
+use Rattle.dependences.proofs.Sound.{feed_at}
+use Rattle.latency_deps.proofs.Meetings.{at_both}
+use Rattle.latency_deps.specs.Delays.{delay_among}
 use Rattle.page_resched.proofs.Settings.{Wait, NewValue, OldValue, LastValue, ListOrder}
 
 module _ (g : Description) (b : Block) where
@@ -49,17 +49,6 @@ module _ (g : Description) (b : Block) where
 
   pub before_there : (i j : ℕ) → i < n → j < n → is_some (delay_among g b i j) ≡ before_in b i j
   before_there i j h k = ap (λ (o : Option ℤ). is_some o) (inside i j h k) ∙ delay_there (latency_of g) i j (timed_at b i) (timed_at b j)
-
-  -- a table of a block's delays has just these
-  pub same_delay : (d : Table) → IsDelayTable g b d → (i j : ℕ) → delay_of d i j ≡ delay_among g b i j
-  unfolding delay_of
-  same_delay d are i j = elim (cases_Bool (nat_lt i n && nat_lt j n)) [
-    | inl t ↦ (let q = and_parts (nat_lt i n) (nat_lt j n) t in are.each i j (ltb-true i n q.0) (ltb-true j n q.1) ∙ sym (ap (where_inside i j) t))
-    | inr f ↦
-        ap (λ (m : ℕ). cond (nat_lt i m && nat_lt j m) (get_or d.cells (i * d.count + j) None) None) are.count
-        ∙ ap (λ (t : Bool). cond t (get_or d.cells (i * d.count + j) None) None) f
-        ∙ sym (ap (where_inside i j) f)
-  ]
 
 -- ---- the delay where there is one
 

@@ -15,17 +15,20 @@ use Rattle.timed_meaning.specs.declared.TimedOp.{TimedOp}
 use Rattle.two_timings.specs.Timing.{Timing, lands}
 use Rattle.latency_deps.specs.declared.rules.BlockRule.TheVariants as rule
 use Rattle.latency_deps.specs.Timing.{ops_of, own_timing}
-use Rattle.latency_deps.specs.Breaks.{below, is_branch_at, is_at_odds, lands_with, shadows}
-use Rattle.latency_deps.specs.Before.{delay_between}
+use Rattle.dependences.specs.Before.{is_at_odds}
+use Rattle.latency_deps.specs.Breaks.{below, is_branch_at, lands_with, shadows}
+use Rattle.dependences.specs.Before.{delay_between}
 use Rattle.latency_deps.specs.Rules.{end_of}
 use Rattle.latency_deps.specs.Block.{Block, IsGood, timed_at}
 use Rattle.latency_deps.specs.Delays.{before_in}
 use Rattle.latency_deps.proofs.GoodOrders.{timed_is, before_is, kept, one_branch, none_stuck, apart}
 use Rattle.latency_deps.proofs.BranchLast.{branch_last}
+use Rattle.dependences.proofs.Sound.{feed_at}
 use Rattle.latency_deps.proofs.Meetings as meetings
 use Rattle.list_sched.specs.Schedule.{IsProblem, is_before}
 use Rattle.list_sched.proofs.Serial.{some_delay}
-use Rattle.page_resched.specs.Block.{delay_among, problem}
+use Rattle.latency_deps.specs.Delays.{delay_among}
+use Rattle.page_resched.specs.Block.{problem}
 use Rattle.page_resched.specs.Laws.{IsMovable, BlocksAreProblems}
 use Rattle.page_resched.proofs.Settings.{Wait, KeepsTimes}
 use Rattle.page_resched.proofs.Delays.{there, never_itself, before_there, no_longer, is_short}
@@ -73,7 +76,7 @@ module _ (b : Block) (good : IsGood b) where
         | inr f ↦ elim (and_cases (is_branch_at ops c) (any && late) (none_any (shadows ops own i) n c f below_n)) [
           | inl q ↦ absurd (both_ways (is_branch_at ops c) q u)
           | inr q ↦ elim (and_cases any late q) [
-            | inl s ↦ absurd (both_ways any s (meetings.feed_at (ops i) (ops c) x w r))
+            | inl s ↦ absurd (both_ways any s (feed_at (ops i) (ops c) x w r))
             | inr s ↦ ltb-false (own.at c) (lands ops own i) s
           ]
         ]

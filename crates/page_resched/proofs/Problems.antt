@@ -1,4 +1,4 @@
--- What is scheduled of a block, by a table of its delays and the list of its kinds.
+-- What is scheduled of a block, by its delays and the list of its kinds.
 use Rattle.std.proofs.Common.{◌≡◌, ℕ, ◌≤◌, List, length, map, refl, sym, ap, ◌∙◌, arith, inl, inr}
 use Rattle.std.specs.Prelude.{slice_index_or, Option, ℤ}
 use Rattle.std.specs.List.{range_with_len}
@@ -12,19 +12,19 @@ use Rattle.operation.specs.declared.UnitKind.TheVariants as unit
 use Rattle.operation.specs.declared.LatKind.{LatKind}
 use Rattle.operation.specs.declared.LatKind.TheVariants as lat
 use Rattle.operation.specs.Places.{unit_kind, latency_kind}
-use Rattle.machine_desc.specs.Description.{Description}
-use Rattle.serial_order.specs.Table.{Table, delay_of}
+use Rattle.machine_desc.specs.Description.{Description, latency_of}
 use Rattle.list_encoding.specs.Reading.{guarded_in, mnemonic_at, operation_of, halt}
 use Rattle.timed_meaning.specs.declared.TimedOp.{TimedOp}
-use Rattle.latency_deps.specs.Timing.{ops_of}
-use Rattle.latency_deps.specs.Block.{Block, IsGood}
-use Rattle.latency_deps.specs.Delays.{IsDelayTable}
+use Rattle.two_timings.specs.Timing.{timed}
+use Rattle.latency_deps.specs.Timing.{ops_of, own_timing}
+use Rattle.latency_deps.specs.Block.{Block, IsGood, timed_at, block_in}
+use Rattle.latency_deps.specs.Delays.{latency_at}
 use Rattle.latency_deps.proofs.GoodOrders.{timed_is}
 use Rattle.list_sched.specs.Schedule.{Problem}
-use Rattle.list_sched.specs.Given.{unit_in, kind_in, problem_of}
-use Rattle.page_resched.specs.Block.{delay_among, problem}
+use Rattle.list_sched.specs.Given.{unit_in, kind_in, latency_in, problem_by}
+use Rattle.latency_deps.specs.Delays.{delay_among}
+use Rattle.page_resched.specs.Block.{problem}
 use Rattle.page_resched.specs.Writing.{kinds_at}
-use Rattle.page_resched.proofs.Delays.{same_delay}
 
 -- no operation has the opcode 0, so that nothing is read in 0
 nothing_in_zero : operation_of 0 ≡ halt
@@ -52,10 +52,28 @@ module _ (b : Block) (good : IsGood b) where
         ∙ sym (ap (λ (o : Guarded). (unit_kind o.op, latency_kind o.op)) (ap operation_of (get_or-eq_default b.words 0 ge) ∙ nothing_in_zero))
   ]
 
-  pub scheduled : (g : Description) (d : Table) → IsDelayTable g b d → problem_of d kinds g ≡ problem g b
-  scheduled g d are =
-      same_problem d.count n (delay_of d) (delay_among g b) (unit_in kinds) (λ k. unit_kind (ops_of b.words k).op) (kind_in kinds) (λ k. latency_kind (ops_of b.words k).op) g
-      are.count
-      (fun_ext (λ i. fun_ext (λ j. same_delay g b d are i j)))
+  count : length kinds ≡ n
+  count = length-map-range_with_len (kinds_at b) 0 n
+
+  -- what the planner is asked for is the block's problem
+  pub scheduled : (g : Description) → problem_by (delay_among g b) kinds g ≡ problem g b
+  scheduled g =
+      same_problem (length kinds) n (delay_among g b) (delay_among g b) (unit_in kinds) (λ k. unit_kind (ops_of b.words k).op) (kind_in kinds)
+      (λ k. latency_kind (ops_of b.words k).op) g count refl
       (fun_ext (λ k. ap (λ (x : UnitKind × LatKind). x.0) (at k)))
       (fun_ext (λ k. ap (λ (x : UnitKind × LatKind). x.1) (at k)))
+
+  -- and the kinds say the latencies of its operations
+  pub same_latencies : (g : Description) → latency_at g b ≡ latency_in kinds g
+  same_latencies g = fun_ext (λ k. ap (latency_of g) (kind_is k))
+    where
+      kind_is : (k : ℕ) → latency_kind (timed_at b k).guarded.op ≡ kind_in kinds k
+      kind_is k = elim (cases_lt k n) [
+        | inl below ↦ sym (ap (λ (x : UnitKind × LatKind). x.1) (get_or-map-range_with_len (kinds_at b) 0 n k k (unit.B, lat.Branch) below (omega arith)))
+        | inr above ↦
+            ap (λ (c : Block). latency_kind (timed_at c k).guarded.op) good.built
+            ∙ ap (λ (o : TimedOp). latency_kind o.guarded.op)
+            (get_or-eq_default (block_in good.description b.words).ops (record { guarded = halt; at = 0; latency = 0 })
+            (let le : n ≤ k = above in let same = length-map-range_with_len (timed (ops_of b.words) (own_timing good.description b.words)) 0 n in omega arith))
+            ∙ sym (ap (λ (x : UnitKind × LatKind). x.1) (get_or-eq_default kinds (unit.B, lat.Branch) (let le : n ≤ k = above in let same = count in omega arith)))
+      ]

@@ -10,7 +10,8 @@ use Rattle.serial_order.specs.Lists.{Among, Earlier, EachOnce}
 use Rattle.two_timings.specs.Timing.{Timing, lands, IsTiming, BothWriteAt}
 use Rattle.two_timings.specs.Before.{Before, Read, ReadOld, Write, Load, LoadOld, Stores, Issue}
 use Rattle.machine_desc.specs.Issue.{issuing, busy_on, keeps_busy, same_unit}
-use Rattle.latency_deps.specs.Breaks.{unit_of, busy_time, is_at_odds}
+use Rattle.dependences.specs.Before.{is_at_odds}
+use Rattle.latency_deps.specs.Breaks.{unit_of, busy_time}
 use Rattle.serial_order.proofs.Earlier.{never_both, which_earlier, earlier_left}
 use Rattle.serial_order.proofs.Members.{earlier_right}
 use Rattle.trap_order.specs.Order.{keep_issue_order}

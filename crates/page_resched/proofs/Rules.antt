@@ -16,8 +16,9 @@ use Rattle.serial_order.proofs.Members.{among_range, range_among}
 use Rattle.two_timings.specs.Timing.{Timing, lands, BothWriteAt}
 use Rattle.machine_desc.specs.Issue.{issuing, busy_on, keeps_busy}
 use Rattle.latency_deps.specs.Breaks
-use Rattle.latency_deps.specs.Breaks.{up_to, below, unit_of, busy_time, is_branch_at, is_memory, both_write, both_write_at, shadows, lands_with, is_at_odds}
-use Rattle.latency_deps.proofs.Meetings.{some_of}
+use Rattle.dependences.specs.Before.{is_memory, both_write, both_write_at, is_at_odds}
+use Rattle.latency_deps.specs.Breaks.{up_to, below, unit_of, busy_time, is_branch_at, shadows, lands_with}
+use Rattle.dependences.proofs.Places.{some_of}
 use Rattle.latency_deps.proofs.Numbers.{once_range}
 use Rattle.list_sched.proofs.Counts.{count_within}
 use Rattle.page_resched.proofs.Settings.{FitsMachine, KeepsTimes}

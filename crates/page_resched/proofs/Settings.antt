@@ -10,7 +10,8 @@ use Rattle.serial_order.specs.Lists.{Among}
 use Rattle.two_timings.specs.Timing.{Timing, lands, BothWriteAt, LandApart, KeepListOrder, HasOneBranch, IsTiming, IsOrderOf}
 use Rattle.two_timings.specs.Before.{Before}
 use Rattle.machine_desc.specs.Issue.{issuing, busy_on}
-use Rattle.latency_deps.specs.Breaks.{unit_of, is_at_odds, busy_time}
+use Rattle.dependences.specs.Before.{is_at_odds}
+use Rattle.latency_deps.specs.Breaks.{unit_of, busy_time}
 
 -- in how many cycles j has to issue behind i, for one of the reasons
 pub data Wait (latency : LatKind → ℕ) (i j : Guarded) : ℤ → Type 0 where

@@ -1,17 +1,13 @@
 -- A block under another generation: what is scheduled of it, and the timing of a schedule.
-use Rattle.std.specs.Prelude.{ℕ, ◌≡◌, ◌<◌, ◌⊎◌, ◌&&◌, nat_lt, if◌then◌else◌, List, length, Option, None, ℤ}
+use Rattle.std.specs.Prelude.{ℕ, ◌≡◌, ◌<◌, ◌⊎◌, List, length}
 use Rattle.operation.specs.Places.{latency_kind, unit_kind}
 use Rattle.machine_desc.specs.Description.{Description, units_of, latency_of}
 use Rattle.serial_order.specs.Lists.{Earlier}
 use Rattle.two_timings.specs.Timing.{Timing, IsOrderOf}
 use Rattle.latency_deps.specs.Timing.{ops_of}
 use Rattle.latency_deps.specs.Block.{Block}
-use Rattle.latency_deps.specs.Delays.{delay_in}
+use Rattle.latency_deps.specs.Delays.{delay_among}
 use Rattle.list_sched.specs.Schedule.{Problem, Schedule}
-
--- the delay of i before j under a generation, among the operations of a block
-abbrev pub delay_among : Description → Block → ℕ → ℕ → Option ℤ
-delay_among g b i j = if nat_lt i (length b.words) && nat_lt j (length b.words) then delay_in g b i j else None
 
 -- what is scheduled of a block
 abbrev pub problem : Description → Block → Problem

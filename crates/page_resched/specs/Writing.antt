@@ -4,7 +4,6 @@ use Rattle.operation.specs.declared.UnitKind.{UnitKind}
 use Rattle.operation.specs.declared.LatKind.{LatKind}
 use Rattle.operation.specs.Places.{unit_kind, latency_kind}
 use Rattle.serial_order.specs.Lists.{Among, EachOnce}
-use Rattle.serial_order.specs.Table.{Table, HasRoom}
 use Rattle.list_encoding.specs.Word.{unit_in}
 use Rattle.latency_deps.specs.Block.{Block, timed_at}
 use Rattle.list_sched.specs.Laws.{IsClose}
@@ -43,8 +42,7 @@ pub record IsListed (cycle : List ℕ) (end : ℕ) (listed : List ℕ) : Type 0 
   pub before : (m : ℕ) → m < length listed → cycle_at cycle listed m < end
   pub close : IsClose (schedule_with listed cycle end)
 
--- there is room for a block of 512 operations: in a table of delays, and in two lists of which each has a capacity
-pub record HasRooms (delays : Table) (kinds listed : ℕ) : Type 0 where
-  pub table : HasRoom delays 512
+-- there is room for a block of 512 operations, in two lists of which each has a capacity
+pub record HasRooms (kinds listed : ℕ) : Type 0 where
   pub each : 512 ≤ kinds
   pub order : 512 ≤ listed

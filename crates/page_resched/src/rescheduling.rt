@@ -2,7 +2,6 @@
 ghost use Rattle.std.specs.Prelude.{◌≡◌, ◌<◌, ◌≤◌, [], ◌∷◌, ◌++◌, length, map, vec_capacity};
 ghost use Rattle.std.specs.List.{range_with_len};
 ghost use Rattle.machine_desc.specs.Value.{description_of};
-ghost use Rattle.serial_order.specs.Table.{HasRoom};
 ghost use Rattle.latency_deps.specs.Block.{IsGood};
 ghost use Rattle.list_sched.specs.Schedule.{IsSchedule};
 ghost use Rattle.list_sched.specs.Planned.{schedule_with};
@@ -12,23 +11,21 @@ ghost use Rattle.page_resched.specs.Writing.{kinds_at, IsPlan, HasRooms};
 
 use crate::forming::write_words;
 use crate::listing::list_into;
-use latency_deps::{GoodBlock, GoodPage, delays_into};
+use latency_deps::{GoodBlock, GoodPage};
 use list_sched::Planner;
 use machine_desc::{Generation, Mdes, same};
 use operation::{LatKind, UnitKind, lat_kind, unit};
-use serial_order::Delays;
 use std::alloc::Global;
 use std::marker::Model;
 use tnk_base::NoMemory;
 
 /// The most operations of a block.
-const MOST: u16 = 512;
+const MOST: usize = 512;
 
-/// The memory in which pages are put in form: a table of delays, a planner of schedules, and lists for the kinds of a block's
-/// operations and for the operations in their new order.
+/// The memory in which pages are put in form: a planner of schedules, and lists for the kinds of a block's operations and for
+/// the operations in their new order.
 #[derive(Drop)]
 pub struct Resched {
-    delays: Delays,
     kinds: Vec<(UnitKind, LatKind)>,
     planner: Planner,
     listed: Vec<u16>,
@@ -39,7 +36,7 @@ impl Model for Resched {
 
     ghost view = { λ _. tt };
 
-    ghost invariant = { λ r. HasRooms r.delays (vec_capacity r.kinds) (vec_capacity r.listed) };
+    ghost invariant = { λ r. HasRooms (vec_capacity r.kinds) (vec_capacity r.listed) };
 }
 
 /// Adds the kinds of an operation to a list that has room for them.
@@ -67,27 +64,24 @@ fn kinds_into(b: &GoodBlock, kinds: &mut Vec<(UnitKind, LatKind)>)
     }
 }
 
-/// Makes the list schedule of a block for a machine generation that has the units of its operations.
+/// Makes the list schedule of a block for a machine generation that has the units of its operations, from the links that the
+/// block keeps.
 fn plan_block<G: Generation>(
     b: &GoodBlock,
     g: &G,
-    delays: &mut Delays,
     kinds: &mut Vec<(UnitKind, LatKind)>,
     planner: &mut Planner,
 )
     requires units { HasUnits (G.description g.now) b.now }
-    requires table { HasRoom delays.old 512 }
     requires room { 512 ≤ vec_capacity kinds.old }
     ensures schedule { IsSchedule (problem (G.description g.now) b.now)
         (schedule_with planner.new.order planner.new.cycles planner.new.end) }
     ensures plan { IsPlan (length b.now.words) planner.new.order planner.new.cycles planner.new.end }
-    ensures table { HasRoom delays.new 512 }
     ensures room { vec_capacity kinds.old ≤ vec_capacity kinds.new }
     ensures good { IsGood b.now }
 {
     kinds_into(b, kinds);
-    delays_into(b, g, delays);
-    planner.plan(delays, kinds, g);
+    planner.plan_links(b.links(), kinds, g);
 }
 
 /// Writes the words of a block in form in place of others, by the order of placing, the cycles and the end of its list
@@ -115,10 +109,9 @@ impl Resched {
     /// Memory for blocks of up to 512 operations.
     pub fn new(alloc: Global) -> Result<Self, NoMemory> {
         Ok(Resched {
-            delays: Delays::with_room(alloc, MOST)?,
-            kinds: Vec::with_capacity(alloc, MOST as usize)?,
+            kinds: Vec::with_capacity(alloc, MOST)?,
             planner: Planner::new(alloc)?,
-            listed: Vec::with_capacity(alloc, MOST as usize)?,
+            listed: Vec::with_capacity(alloc, MOST)?,
         })
     }
 
@@ -128,7 +121,7 @@ impl Resched {
         requires size { length words.old ≡ length b.now.words }
         ensures { AreInForm (G.description g.now) b.now words.new }
     {
-        plan_block(b, g, &mut self.delays, &mut self.kinds, &mut self.planner);
+        plan_block(b, g, &mut self.kinds, &mut self.planner);
         write_block(
             b,
             self.planner.order(),

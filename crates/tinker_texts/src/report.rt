@@ -1,11 +1,11 @@
 // The texts of a check and of a run.
 ghost use Rattle.std.specs.Prelude.{Some, ◌≡◌, ◌<◌, ◌≤◌, ◌*◌, ◌^◌, ◌++◌, ◌∷◌, [], length, map, sum, nat_eq, OnOk, IfOk, string_bytes, encode_utf8};
 ghost use Rattle.std.specs.List.{list_all};
+ghost use Rattle.image_format.specs.Parts.{image_of};
 ghost use Rattle.tinker_texts.specs.Report.{kind_name as name_of, end_text, hex, hex_digit as digit_of, hex_line, hex_lines, heading, memory_heading, memory_row as row_of, row_line, memory_line, memory_lines, memory_part, cycles_line, part as part_text, accepted_line, wrote_line, accepted_text};
 
 use byteorder::{BigEndian, ByteOrder};
-use image_check::Accepted;
-use image_format::Row;
+use image_format::{Parts, Row};
 use operation::{End, TrapKind};
 use std::alloc::{AllocError, Global};
 use std::fmt;
@@ -211,14 +211,13 @@ pub fn push_cycles(text: &mut String, index: u8, cycles: u64) -> Result<(), Allo
     writeln!(text, "cycles {index} {cycles}")
 }
 
-/// How many words the rows have in all.
-fn words_in(rows: &[Row]) -> u64
-    requires { length rows.now ≤ 2 ^ 20 }
+/// How many words the rows have in all. 128 bits have room for the sum of any rows.
+fn words_in(rows: &[Row]) -> u128
     ensures { result ≡ sum (map (λ r. r.count) rows.now) }
 {
     let mut words = 0;
     for row in rows {
-        words += row.count as u64;
+        words += u128::from(row.count);
     }
     words
 }
@@ -230,7 +229,7 @@ fn push_accepted(
     name: &str,
     pages: usize,
     blocks: usize,
-    words: u64,
+    words: u128,
 ) -> Result<(), AllocError>
     ensures { OnOk result (string_bytes text.new ≡ string_bytes text.old ++ accepted_line name.now pages blocks words) }
 {
@@ -249,11 +248,10 @@ pub fn wrote(alloc: Global, name: &str, bytes: usize) -> Result<Vec<u8>, AllocEr
     Ok(line.into_bytes())
 }
 
-/// What is put out of an accepted image.
-pub fn accepted(alloc: Global, name: &str, image: &Accepted) -> Result<Vec<u8>, AllocError>
-    ensures { IfOk result (λ text. text.items ≡ accepted_text name.now image.now) }
+/// What is put out of an accepted image, by its parts.
+pub fn accepted(alloc: Global, name: &str, parts: &Parts) -> Result<Vec<u8>, AllocError>
+    ensures { IfOk result (λ text. text.items ≡ accepted_text name.now (image_of parts.now)) }
 {
-    let parts = image.parts();
     let (pages, blocks) = (parts.words.len() / 512, parts.rows.len());
     let mut text = String::new(alloc);
     push_accepted(&mut text, name, pages, blocks, words_in(&parts.rows))?;

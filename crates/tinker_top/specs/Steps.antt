@@ -10,6 +10,9 @@ use Rattle.machine_desc.specs.File.{read_description}
 use Rattle.image_format.specs.Image.{Image}
 use Rattle.image_check.specs.Units.{first_lacking}
 use Rattle.image_check.specs.Rules.{first_broken}
+use Rattle.image_check.specs.declared.rules.CheckFault.{CheckFault}
+use Rattle.image_check.specs.declared.rules.CheckFault.TheVariants as check
+use Rattle.tinker_texts.specs.Refusals.{refused_line, refusal_text}
 use Rattle.tinker_top.specs.declared.steps.Said.{Said}
 use Rattle.tinker_top.specs.declared.steps.Keeping.{Keeping}
 use Rattle.tinker_top.specs.declared.steps.Stop.{Stop}
@@ -78,9 +81,15 @@ IsDecided view step (Err (Refused line)) = (next : _) → step next ≡ says 1 l
 IsDecided view step (Err Fault) = ⊥
 IsDecided view step (Err Memory) = Unit {0}
 
--- a file is an accepted image, or it is refused for the first rule that it breaks
-abbrev pub IsJudged : (name bytes : List ℕ) → Result Image Stop → Type 0
-IsJudged name bytes = IsDecided (λ (image : Image). image) (λ next. if_accepted name next bytes (first_broken bytes))
+-- a command stops at a file that is no accepted image: the file is refused for the broken rule, or memory was wanting
+abbrev pub IsStopFor : (name : List ℕ) → CheckFault → Stop → Type 0
+IsStopFor name (check.Refused why) (Refused line) = line.items ≡ refused_line name (refusal_text why)
+IsStopFor name fault Memory = Unit {0}
+IsStopFor name fault stop = ⊥
+
+-- a file is accepted, and its image is the view of a value, or it is refused for the first rule that it breaks
+abbrev pub IsJudged : {V : Type 0} → (view : V → Image) (name bytes : List ℕ) → Result V Stop → Type 0
+IsJudged view name bytes = IsDecided view (λ next. if_accepted name next bytes (first_broken bytes))
 
 -- a file has a description, or it is refused for its first fault
 abbrev pub IsDescribed : (name bytes : List ℕ) → Result Mdes Stop → Type 0

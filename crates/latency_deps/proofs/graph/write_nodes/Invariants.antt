@@ -2,7 +2,7 @@ use Rattle.std.proofs.Common.{◌≡◌, length}
 use Rattle.std.specs.Prelude.{map, take}
 use Rattle.machine_desc.specs.Description.{latency_of}
 use Rattle.latency_deps.specs.declared.block.WordOp.{WordOp}
-use Rattle.latency_deps.specs.Graph.{node}
+use Rattle.dependences.specs.Graph.{node}
 use Rattle.latency_deps.proofs.graph.write_nodes.Given as goal
 
 abbrev pub invariant-loop-k : goal.invariant-loop-k

@@ -3,21 +3,19 @@ use Rattle.std.proofs.Common.{◌≡◌, ◌≢◌, ◌<◌, ◌≤◌, ◌+◌,
 use Rattle.std.proofs.Math.ListN.{length-set}
 use Rattle.std.specs.Prelude.{pos, slice_index}
 use Rattle.std.proofs.lemmas.Bool.{cases_eq}
-use Rattle.operation.specs.declared.UnitKind.TheVariants as unit
-use Rattle.operation.specs.declared.LatKind.TheVariants as lat
-use Rattle.machine_desc.specs.Description.{latency_of}
 use Rattle.serial_order.specs.Lists.{Among}
 use Rattle.serial_order.specs.SerialOrder.{IsOrder}
 use Rattle.serial_order.proofs.Onto.{onto}
-use Rattle.list_sched.specs.declared.links.Link.{Link}
+use Rattle.block_links.specs.declared.links.Link.{Link}
+use Rattle.block_links.specs.Links.{row, LeadInside, delay_of}
 use Rattle.list_sched.specs.Extremes.{IsGreatest}
-use Rattle.list_sched.specs.Given.{kind_in}
+use Rattle.list_sched.specs.Given.{latency_in}
 use Rattle.list_sched.specs.Schedule.{Climb}
-use Rattle.list_sched.specs.Links.{row, linked, LeadInside}
+use Rattle.list_sched.specs.Links.{linked}
 use Rattle.list_sched.specs.Steps.{IsHeight}
 use Rattle.list_sched.proofs.Exists.{heights_step}
 use Rattle.list_sched.proofs.Positions.{among_at}
-use Rattle.list_sched.proofs.Climbs.{latency_at, serial_of, serial_length, split_onto, drop_at}
+use Rattle.list_sched.proofs.Climbs.{serial_of, serial_length, split_onto, drop_at}
 use Rattle.list_sched.proofs.Heights.{is_height, height_near}
 use Rattle.list_sched.proofs.height.find_heights.Goals as goal
 
@@ -31,8 +29,8 @@ same_set xs i c lt = rw get_or-set_same
 at_inside : (before : ℕ → ℕ → Bool) (n : ℕ) (order : List ℕ) (k : ℕ) → IsOrder before n order → 0 < k → k ≤ length order → get_or order (k - 1) 0 < n
 at_inside before n order k o some le = (o.complete (get_or order (k - 1) 0)).0 (among_at order (k - 1) (omega arith))
 
-pub bounds-kinds-i : goal.bounds-kinds-i
-bounds-kinds-i g c = at_inside _ (length c.args.kinds.now) c.args.order.now c.loop-k.k c.requires.serial c.loop-k-test.true c.loop-k.auto.k
+pub height_of-height-requires-clause-there : goal.height_of-height-requires-clause-there
+height_of-height-requires-clause-there g c = at_inside _ (length c.args.kinds.now) c.args.order.now c.loop-k.k c.requires.serial c.loop-k-test.true c.loop-k.auto.k
 
 pub of-requires : goal.of-requires
 of-requires g c = (length c.args.kinds.now, c.requires.links, at_inside _ (length c.args.kinds.now) c.args.order.now c.loop-k.k c.requires.serial c.loop-k-test.true c.loop-k.auto.k)
@@ -40,11 +38,11 @@ of-requires g c = (length c.args.kinds.now, c.requires.links, at_inside _ (lengt
 pub height_of-height-requires-clause-inside : goal.height_of-height-requires-clause-inside
 height_of-height-requires-clause-inside g c =
     let i = at_inside _ (length c.args.kinds.now) c.args.order.now c.loop-k.k c.requires.serial c.loop-k-test.true c.loop-k.auto.k in
-    subst (λ n. LeadInside n c.of.result.now) (sym c.loop-k.invariant.size) (subst (LeadInside (length c.args.kinds.now)) (sym c.of.ensures) (c.requires.links.lead _ i))
+    subst (LeadInside (length c.args.kinds.now)) (sym c.of.ensures) (c.requires.links.lead _ i)
 
 pub height_of-height-requires-clause-small : goal.height_of-height-requires-clause-small
 height_of-height-requires-clause-small g c k lt =
-    let s = c.loop-k.invariant.small k (let z = c.loop-k.invariant.size in omega arith) in
+    let s = c.loop-k.invariant.small k lt in
     let l = serial_length (linked c.args.links.now c.args.kinds.now (g.G.Generation.description c.args.g.now)) c.args.order.now (serial_of (linked c.args.links.now c.args.kinds.now (g.G.Generation.description c.args.g.now)) c.requires.problem c.args.order.now c.requires.serial) in
     let f = c.requires.problem.few in
     omega arith
@@ -69,9 +67,9 @@ loop-k-preserved g c =
     let inside : x < length c.args.kinds.now = at_inside _ (length c.args.kinds.now) order c.loop-k.k c.requires.serial c.loop-k-test.true c.loop-k.auto.k in
     let bound : x < length xs = (let size = c.loop-k.invariant.size in omega arith) in
     let here : get_or (set xs x v) x 0 ≡ v = same_set xs x v bound in
-    let late : c.latency-latency.result ≡ latency_of machine (kind_in c.args.kinds.now x) = latency_at machine c.args.kinds.now x c.latency-latency.result (unit.I, lat.Alu) inside c.latency-latency.ensures in
-    let high : IsHeight (row c.args.links.now x) (latency_of machine (kind_in c.args.kinds.now x)) h v =
-    subst (λ n. IsHeight (row c.args.links.now x) n h v) late (subst (λ (l : List Link). IsHeight l c.latency-latency.result h v) c.of.ensures c.height_of-height.ensures) in
+    let latency = latency_in c.args.kinds.now machine in
+    let high : IsHeight (delay_of latency x) (row c.args.links.now x) (latency x) h v =
+    subst (λ (l : List Link). IsHeight (delay_of latency x) l (latency x) h v) c.of.ensures c.height_of-height.ensures in
     let top : IsGreatest (Climb p h x) (pos v) = is_height c.args.links.now c.args.kinds.now machine h x v high in
     let next : suc k ≡ c.loop-k.k = (let t = c.loop-k-test.true in omega arith) in
     let near : v ≤ (32 * length order - 32 * c.loop-k.k) + 32 =

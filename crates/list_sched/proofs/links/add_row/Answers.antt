@@ -6,7 +6,8 @@ use Rattle.std.proofs.lemmas.Int.{to_z-of_z}
 use Rattle.std.specs.Prelude.{vec_capacity, ℤ}
 use Rattle.std.proofs.lemmas.List.{length_push}
 use Rattle.serial_order.specs.Table.{delay_of}
-use Rattle.list_sched.specs.declared.links.Link.{Link}
+use Rattle.block_links.specs.declared.links.Dependence.TheVariants.{Given}
+use Rattle.block_links.specs.declared.links.Link.{Link}
 use Rattle.list_sched.specs.Links.{links_below, link_if}
 use Rattle.list_sched.proofs.Rows.{below_none, below_more}
 use Rattle.list_sched.proofs.links.add_row.Goals as goal
@@ -31,7 +32,7 @@ loop-j-preserved c = elim c.match-get.branch [
       record {
         items =
             ap (λ (l : _). l.items) w.links-is ∙ w.add.ensures.items
-            ∙ ap (λ (z : ℤ). c.loop-j.links.items ++ record { to = j; delay = z } ∷ []) plain
+            ∙ ap (λ (z : ℤ). c.loop-j.links.items ++ record { to = j; dependence = Given z } ∷ []) plain
             ∙ ap (λ (l : List Link). l ++ link_if j (Some d)) c.loop-j.invariant.items
             ∙ append_assoc c.args.links.now.items (links_below c.args.d.now c.args.i j) (link_if j (Some d))
             ∙ ap (λ (l : List Link). c.args.links.now.items ++ l) (ap (λ o. links_below c.args.d.now c.args.i j ++ link_if j o) (sym there) ∙ sym row);

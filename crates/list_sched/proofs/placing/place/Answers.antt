@@ -9,10 +9,12 @@ use Rattle.std.proofs.lemmas.List.{length_push, length-set, get_or_default, with
 use Rattle.operation.specs.declared.UnitKind.TheVariants as unit
 use Rattle.operation.specs.declared.LatKind.TheVariants as lat
 use Rattle.machine_desc.specs.Description.{Description, busy_of}
-use Rattle.list_sched.specs.declared.links.Link.{Link}
+use Rattle.block_links.specs.declared.links.Link.{Link}
+use Rattle.block_links.specs.Links.{row, LeadInside, count_to, delay_of}
+use Rattle.block_links.proofs.Counted.{links_of}
 use Rattle.list_sched.specs.Extremes.{IsLeast}
-use Rattle.list_sched.specs.Given.{unit_in}
-use Rattle.list_sched.specs.Links.{linked, row, LeadInside, count_to}
+use Rattle.list_sched.specs.Given.{unit_in, latency_in}
+use Rattle.list_sched.specs.Links.{linked}
 use Rattle.list_sched.specs.Schedule.{Problem, IsNext, latency, busy}
 use Rattle.list_sched.specs.Slots.{Slots, HasRoomFor, IsTaken}
 use Rattle.list_sched.specs.Steps.{IsStart, IsHeldBack}
@@ -20,7 +22,7 @@ use Rattle.serial_order.specs.Counts.{waiting, one_where}
 use Rattle.list_sched.specs.Queue.{AreFreed, can_go}
 use Rattle.list_sched.proofs.Climbs.{latency_at, busy_at, unit_at}
 use Rattle.list_sched.proofs.Plans.{Allowed, IsPlan, IsRoom, early, has_room, next_plan, done, agree, here, no_plan}
-use Rattle.list_sched.proofs.Waits.{IsWaiting, links_of, branch_left, goes_next, least_allowed, enough, idle, next_waiting, no_waiting}
+use Rattle.list_sched.proofs.Waits.{IsWaiting, branch_left, goes_next, least_allowed, enough, idle, next_waiting, no_waiting}
 use Rattle.list_sched.proofs.placing.place.Goals as goal
 use Rattle.list_sched.proofs.placing.place.Goals.{After-next-i, After-start-from, After-find-c}
 use Rattle.list_sched.proofs.placing.place.Given.{Over}
@@ -149,11 +151,13 @@ of-requires g c = (length c.args.kinds.now, c.requires.links, there g (goal.at.o
 pub of-requires-in-loop-step : goal.of-requires-in-loop-step
 of-requires-in-loop-step g c = (length c.args.kinds.now, c.requires.links, there g (goal.at.of-requires-in-loop-step g c).After-next-i)
 
+pub hold_back-requires-clause-there : goal.hold_back-requires-clause-there
+hold_back-requires-clause-there g c = there g (goal.at.hold_back-requires-clause-there g c).After-next-i
+
 pub hold_back-requires-clause-inside : goal.hold_back-requires-clause-inside
 hold_back-requires-clause-inside g c =
     let i = there g (goal.at.hold_back-requires-clause-inside g c).After-next-i in
-    let many : length c.deref_mut-in-loop-step.result.now ≡ length c.args.kinds.now = ap length c.deref_mut-in-loop-step.ensures.value ∙ c.loop-step.invariant.waiting.least_size in
-    subst (λ n. LeadInside n c.of.result.now) (sym many) (subst (LeadInside (length c.args.kinds.now)) (sym c.of.ensures) (c.requires.links.lead _ i))
+    subst (LeadInside (length c.args.kinds.now)) (sym c.of.ensures) (c.requires.links.lead _ i)
 
 pub release-requires-clause-inside : goal.release-requires-clause-inside
 release-requires-clause-inside g c =
@@ -195,9 +199,9 @@ loop-step-init g c =
           (no_plan p (slice_index c.args.heights.now) c.fill-2.new.self c.clear.new.self.slots (c.fill-2.ensures.len ∙ c.requires.cycle) (λ k. grind (arith, common_steps))
           (let a = c.clear.ensures.cycles in let b = c.requires.work.cycles in omega arith) (c.clear.ensures.known (g.G.Generation.description c.args.g.now)).rooms.slots.each
           (λ k lt. c.clear.ensures.cleared.issued k (let e = c.clear.ensures.count in omega arith)) (λ u k lt. c.clear.ensures.cleared.busy u k (let e = c.clear.ensures.count in omega arith)));
-      waiting = subst (λ (o : List ℕ). IsWaiting c.args.links.now kinds c.args.heights.now o c.fill-2.new.self (Rattle.std.specs.Vec.with_items c.args.work.now.waits c.count_all.new.waits).items c.fill.new.self.items (heap_items c.find_ready.new.queue)) (sym none)
-          (subst (λ (w : List ℕ). IsWaiting c.args.links.now kinds c.args.heights.now [] c.fill-2.new.self w c.fill.new.self.items (heap_items c.find_ready.new.queue)) (sym written)
-          (no_waiting c.args.links.now kinds c.args.heights.now c.fill-2.new.self c.count_all.new.waits c.fill.new.self.items (heap_items c.find_ready.new.queue) many (let e : length c.fill.new.self.items ≡ length c.args.work.now.least.items = grind (arith, common_steps) in e ∙ c.requires.work.least)
+      waiting = subst (λ (o : List ℕ). IsWaiting c.args.links.now kinds (g.G.Generation.description c.args.g.now) c.args.heights.now o c.fill-2.new.self (Rattle.std.specs.Vec.with_items c.args.work.now.waits c.count_all.new.waits).items c.fill.new.self.items (heap_items c.find_ready.new.queue)) (sym none)
+          (subst (λ (w : List ℕ). IsWaiting c.args.links.now kinds (g.G.Generation.description c.args.g.now) c.args.heights.now [] c.fill-2.new.self w c.fill.new.self.items (heap_items c.find_ready.new.queue)) (sym written)
+          (no_waiting c.args.links.now kinds (g.G.Generation.description c.args.g.now) c.args.heights.now c.fill-2.new.self c.count_all.new.waits c.fill.new.self.items (heap_items c.find_ready.new.queue) many (let e : length c.fill.new.self.items ≡ length c.args.work.now.least.items = grind (arith, common_steps) in e ∙ c.requires.work.least)
           (λ j. c.count_all.ensures.counted j ∙ ap (waiting (links_of c.args.links.now) [] j) (ap length old ∙ c.requires.work.waits)) (λ j. grind (arith, common_steps)) c.find_ready.ensures.queue
           (λ j lt. c.find_ready.ensures.entries j (let z = c.requires.heights in omega arith) ∙ ap (λ w. one_where (can_go kinds w j)) (c.deref.ensures.value ∙ written))));
       known = c.clear.ensures.known (g.G.Generation.description c.args.g.now);
@@ -250,8 +254,9 @@ loop-step-preserved g c =
     let backed : length c.hold_back.new.least ≡ length c.loop-step.work.least.items = c.hold_back.ensures.size ∙ ap length behind in
     let long_waits : length c.loop-step.work.waits.items ≡ c.loop-step.work.waits.len = search rules in
     let long_least : length c.loop-step.work.least.items ≡ c.loop-step.work.least.len = search rules in
-    let held : IsHeldBack (row c.args.links.now i) v c.loop-step.work.least.items c.hold_back.new.least =
-    subst (λ (k : List ℕ). IsHeldBack (row c.args.links.now i) v k c.hold_back.new.least) behind (subst (λ (k : List Link). IsHeldBack k v c.deref_mut-in-loop-step.result.now c.hold_back.new.least) c.of.ensures c.hold_back.ensures) in
+    let delay = delay_of (latency_in kinds machine) i in
+    let held : IsHeldBack delay (row c.args.links.now i) v c.loop-step.work.least.items c.hold_back.new.least =
+    subst (λ (k : List ℕ). IsHeldBack delay (row c.args.links.now i) v k c.hold_back.new.least) behind (subst (λ (k : List Link). IsHeldBack delay k v c.deref_mut-in-loop-step.result.now c.hold_back.new.least) c.of.ensures c.hold_back.ensures) in
     let off = λ (j : ℕ). (let a = c.release.ensures.off j in let d = ap (λ (k : List Link). count_to k j) c.of-in-loop-step.ensures in let e = ap (λ k. slice_index k j) before in
     let f : slice_index c.release.new.waits j + count_to (row c.args.links.now i) j ≡ slice_index c.loop-step.work.waits.items j = omega arith in f) in
     let freed : AreFreed kinds c.loop-step.work.waits.items c.release.new.waits (heap_items c.next-i.new.queue) (heap_items c.release.new.queue) =
@@ -262,9 +267,9 @@ loop-step-preserved g c =
       count = ap length grown ∙ length_push order i ∙ ap (λ (n : ℕ). n + 1) c.loop-step.invariant.count;
       plan = subst (λ (o : List ℕ). IsPlan p h o (slice_set cycle i v) c.take.new.self.slots c.max-end.result) (sym grown)
           (next_plan p c.requires.problem h order cycle slots end c.loop-step.invariant.plan i n few (slice_index c.loop-step.work.least.items i) l c.start-from.result st v r c.take.new.self.slots taken c.max-end.result first second one);
-      waiting = subst (λ (o : List ℕ). IsWaiting c.args.links.now kinds c.args.heights.now o (slice_set cycle i v) (Rattle.std.specs.Vec.with_items c.loop-step.work.waits c.release.new.waits).items (Rattle.std.specs.Vec.with_items c.loop-step.work.least c.hold_back.new.least).items (heap_items c.release.new.queue)) (sym grown)
-          (subst (λ (w : List ℕ). IsWaiting c.args.links.now kinds c.args.heights.now (order ++ i ∷ []) (slice_set cycle i v) w (Rattle.std.specs.Vec.with_items c.loop-step.work.least c.hold_back.new.least).items (heap_items c.release.new.queue)) (sym waits)
-          (subst (λ (w : List ℕ). IsWaiting c.args.links.now kinds c.args.heights.now (order ++ i ∷ []) (slice_set cycle i v) c.release.new.waits w (heap_items c.release.new.queue)) (sym leasts)
+      waiting = subst (λ (o : List ℕ). IsWaiting c.args.links.now kinds (g.G.Generation.description c.args.g.now) c.args.heights.now o (slice_set cycle i v) (Rattle.std.specs.Vec.with_items c.loop-step.work.waits c.release.new.waits).items (Rattle.std.specs.Vec.with_items c.loop-step.work.least c.hold_back.new.least).items (heap_items c.release.new.queue)) (sym grown)
+          (subst (λ (w : List ℕ). IsWaiting c.args.links.now kinds (g.G.Generation.description c.args.g.now) c.args.heights.now (order ++ i ∷ []) (slice_set cycle i v) w (Rattle.std.specs.Vec.with_items c.loop-step.work.least c.hold_back.new.least).items (heap_items c.release.new.queue)) (sym waits)
+          (subst (λ (w : List ℕ). IsWaiting c.args.links.now kinds (g.G.Generation.description c.args.g.now) c.args.heights.now (order ++ i ∷ []) (slice_set cycle i v) c.release.new.waits w (heap_items c.release.new.queue)) (sym leasts)
           (next_waiting c.args.links.now kinds machine c.requires.problem c.args.heights.now order cycle c.loop-step.invariant.plan.schedule c.loop-step.work.waits.items c.loop-step.work.least.items (heap_items c.loop-step.work.queue) c.loop-step.invariant.waiting i n
           c.requires.heights (heap_items c.next-i.new.queue) c.next-i.ensures.next c.release.new.waits released off (heap_items c.release.new.queue) c.release.ensures.queue freed c.hold_back.new.least v held (slice_set cycle i v)
           (agree p c.requires.problem h order cycle slots end c.loop-step.invariant.plan i n few (slice_index c.loop-step.work.least.items i) l c.start-from.result st v r c.take.new.self.slots taken c.max-end.result first second one)

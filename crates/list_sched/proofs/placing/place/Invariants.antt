@@ -12,7 +12,7 @@ abbrev pub invariant-loop-step : goal.invariant-loop-step
 invariant-loop-step g l = record {
   count : length l.order.items ≡ l.step;
   plan : IsPlan (linked l.links l.kinds (g.G.Generation.description l.g)) (λ k. get_or l.heights k 0) l.order.items l.cycle l.work.rooms.slots l.end;
-  waiting : IsWaiting l.links l.kinds l.heights l.order.items l.cycle l.work.waits.items l.work.least.items (heap_items l.work.queue);
+  waiting : IsWaiting l.links l.kinds (g.G.Generation.description l.g) l.heights l.order.items l.cycle l.work.waits.items l.work.least.items (heap_items l.work.queue);
   known : IsKnown (g.G.Generation.description l.g) l.work.rooms;
   used : l.work.rooms.count ≡ 32 * length l.kinds;
   queue : length l.kinds ≤ heap_capacity l.work.queue;

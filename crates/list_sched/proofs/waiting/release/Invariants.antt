@@ -1,7 +1,7 @@
 use Rattle.std.proofs.Common.{◌≡◌, ◌+◌, ◌≤◌, ◌<◌, ℕ, get_or, length, take}
 use Rattle.std.specs.BinaryHeap.{heap_items, heap_capacity}
 use Rattle.serial_order.specs.Counts.{one_where}
-use Rattle.list_sched.specs.Links.{count_to}
+use Rattle.block_links.specs.Links.{count_to}
 use Rattle.list_sched.specs.Queue.{IsQueue, entries_of, is_freed}
 use Rattle.list_sched.proofs.waiting.release.Given as goal
 

@@ -1,7 +1,7 @@
-use Rattle.std.proofs.Common.{ap, sym, ◌∙◌}
-use Rattle.tinker_top.specs.Command.{if_accepted}
+use Rattle.image_format.specs.Image.{Image}
+use Rattle.tinker_top.proofs.Judging.{accepted_is_judged}
 use Rattle.tinker_top.proofs.commands.judge.Goals as goal
 
 pub returns-in-Ok : goal.returns-in-Ok
-returns-in-Ok c = λ next.
-    ap (if_accepted c.args.name.now next c.args.bytes.now) c.in-Ok.ensures.answer.0 ∙ ap next (sym c.in-Ok.ensures.answer.1)
+returns-in-Ok c =
+    accepted_is_judged {V = Image} (λ image. image) c.args.name.now c.args.bytes.now c.in-Ok.image c.in-Ok.ensures.answer.0 c.in-Ok.ensures.answer.1

@@ -1,0 +1,5 @@
+pub mod Rows
+pub mod Counted
+pub mod Idle
+pub mod Queued
+pub mod Chains

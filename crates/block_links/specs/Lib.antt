@@ -1,0 +1,4 @@
+pub mod Links
+pub mod Cover
+pub mod Laws
+pub mod Idle

@@ -1,0 +1,11 @@
+pub mod Before
+pub mod Footprint
+pub mod Graph
+pub mod Listed
+pub mod Accesses
+pub mod Linked
+pub mod Laws
+pub mod Turns
+pub mod Runs
+pub mod Found
+pub mod Rows
