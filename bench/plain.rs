@@ -1,6 +1,6 @@
-//! What `check` and `resched` do for each block's operations, in plain Rust without proofs: the same sets of places, the
-//! same table of delays, the same search for an order, the same list schedule. `bench/time.py` compiles and times it beside
-//! the program, and compares the files that both write.
+//! What `check` and `resched` answer for each block's operations, in plain Rust without proofs and by all pairs of them: sets
+//! of places, a table of delays, the search for an order and the list schedule over it. `bench/time.py` compiles and times it
+//! beside the program, and compares the files that both write.
 //! It knows the operations of `dense` in bench/images.py and the generation t2 alone, and looks at no other rule.
 //!
 //! `plain check IMAGE`; `plain resched IMAGE t2 OUT`

@@ -2,8 +2,8 @@
 
 Each line tells the command, the seconds of the quickest of five runs, and the most memory that it took as a multiple of
 its file. The last lines compare `check` and `resched` with plain.rs, plain Rust that does the search for orders and the
-schedules alone, over images of 256 blocks of so many operations: the nanoseconds for each operation, of the program and of
-plain.rs by turns, and how many times plain.rs's they are. Both write the same file. It wants `rustc`. The images are
+schedules alone, and by all pairs of a block's operations, over images of 256 blocks of so many operations: the nanoseconds
+for each operation, of the program and of plain.rs by turns, and how many times plain.rs's they are. Both write the same file. It wants `rustc`. The images are
 written by another process, so that this one stays small: the system counts its memory, some 10 million bytes, as the
 least that a child takes.
 """
@@ -52,7 +52,7 @@ def compare(program, here, folder):
     if shutil.which("rustc") is None:
         sys.exit("no rustc: plain.rs isn't compared")
     subprocess.run(["rustc", "--edition", "2024", "-O", "-o", plain, os.path.join(here, "plain.rs")], check=True)
-    print("operations a block; ns an operation of check, plain, ratio; of what resched adds to check, plain, ratio")
+    print("operations a block; ns an operation of check, plain, ratio; of resched, plain, ratio")
     for name, count in [("dense_32", 32), ("dense_64", 64), ("dense_128", 128), ("dense_256", 256), ("dense", 500), ("dense_512", 512)]:
         ours, theirs = (
             [least(one, folder, words) for words in (["check", name], ["resched", name, "t2", out])]
@@ -60,9 +60,8 @@ def compare(program, here, folder):
         )
         if not same(folder, "ours", "theirs"):
             sys.exit(f"{name}: the files differ")
-        checks = [1e9 * times[0] / (256 * count) for times in (ours, theirs)]
-        adds = [1e9 * (times[1] - times[0]) / (256 * count) for times in (ours, theirs)]
-        print(count, *(f"{x:.0f}, {y:.0f}, {x / y:.2f};" for x, y in (checks, adds)))
+        pairs = [[1e9 * times[k] / (256 * count) for times in (ours, theirs)] for k in range(2)]
+        print(count, *(f"{x:.0f}, {y:.0f}, {x / y:.3f};" for x, y in pairs))
 
 
 def main():
