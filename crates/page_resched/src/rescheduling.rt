@@ -1,5 +1,5 @@
 // Pages in form, in memory that is taken once.
-ghost use Rattle.std.specs.Prelude.{◌≡◌, ◌<◌, ◌≤◌, [], ◌∷◌, ◌++◌, length, map, vec_capacity};
+ghost use Rattle.std.specs.Prelude.{◌≡◌, ◌<◌, ◌≤◌, [], length, map, vec_capacity};
 ghost use Rattle.std.specs.List.{range_with_len};
 ghost use Rattle.machine_desc.specs.Value.{description_of};
 ghost use Rattle.latency_deps.specs.Block.{IsGood};
@@ -11,6 +11,7 @@ ghost use Rattle.page_resched.specs.Writing.{kinds_at, IsPlan, HasRooms};
 
 use crate::forming::write_words;
 use crate::listing::list_into;
+use block_links::lists::add;
 use latency_deps::{GoodBlock, GoodPage};
 use list_sched::Planner;
 use machine_desc::{Generation, Mdes, same};
@@ -37,17 +38,6 @@ impl Model for Resched {
     ghost view = { λ _. tt };
 
     ghost invariant = { λ r. HasRooms (vec_capacity r.kinds) (vec_capacity r.listed) };
-}
-
-/// Adds the kinds of an operation to a list that has room for them.
-fn add(kinds: &mut Vec<(UnitKind, LatKind)>, kind: (UnitKind, LatKind))
-    requires { length kinds.old.items < vec_capacity kinds.old }
-    ensures items { kinds.new.items ≡ kinds.old.items ++ kind ∷ [] }
-    ensures room { vec_capacity kinds.old ≤ vec_capacity kinds.new }
-{
-    if kinds.push(kind).is_err() {
-        unreachable!()
-    }
 }
 
 /// Makes a list the unit kind and the latency kind of each operation of a block. The list has room for 512.

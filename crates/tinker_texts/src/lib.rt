@@ -1,5 +1,5 @@
 // What commands put out: the report of a run, the line of an accepted image, refusals, and what the program says of itself.
-// It stands on `operation` (ends and traps), `image_check` and `image_format` (accepted images and broken rules), and
+// It stands on `operation` (ends and traps), `image_format` (the parts of images), `image_check` (broken rules), and
 // `byteorder`.
 // Its contract is that each text is that of its definition, byte by byte (specs/).
 #![tactic(auto)]
