@@ -74,6 +74,15 @@ ends 'its size' 0 '4141 kept' '' wc -c kept
 ends 'its run' 0 "${report/cycles 0 3/cycles 0 2}" '' "$tinker" run kept own -
 ends 'a chain back' 0 'wrote kept 4141' '' "$tinker" resched kept t1 kept
 ends 'the run behind it' 0 "${report/cycles 0 3/cycles 0 2}" '' "$tinker" run kept own -
+echo another > kept.0.part
+ends 'a file kept beside another one' 0 'wrote kept 4141' '' "$tinker" resched s1.tnk t2 kept
+ends 'the other one' 0 'another' '' cat kept.0.part
+ends 'what is left beside it' 0 'kept.0.part' '' find . -name 'kept.*'
+ln -s kept linked
+ends 'a file kept through a link' 0 'wrote linked 4141' '' "$tinker" resched s1.tnk t1 linked
+ends 'the link' 0 'kept' '' readlink linked
+ends 'what is behind it' 0 '' '' cmp s1.tnk kept
+shell 'a file kept on standard output' 0 '4164' '' '"$0" resched s1.tnk t2 /dev/stdout | wc -c'
 ends 'a file kept in no folder' 3 '' "$(fault 'writing nowhere/x: No such file or directory (os error 2)')" "$tinker" resched s1.tnk t2 nowhere/x
 
 # What isn't a plain file.

@@ -4,8 +4,6 @@
 
 mod keeping;
 mod real;
-#[cfg(test)]
-mod tests;
 mod words;
 
 use real::RealHost;

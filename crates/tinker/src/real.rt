@@ -29,14 +29,6 @@ impl<'a, R: AllocGlobal> RealHost<'a, R> {
             faults: 0,
         }
     }
-
-    /// How many calls have failed, up to the last value of a `u64`.
-    #[cfg(test)]
-    pub fn faults(&self) -> u64
-        ensures { result ≡ self.now.faults }
-    {
-        self.faults
-    }
 }
 
 impl<R: Files + Print + Eprint> Host for RealHost<'_, R> {

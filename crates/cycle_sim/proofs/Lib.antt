@@ -1,0 +1,13 @@
+pub mod Landings
+pub mod Slots
+pub mod Cells
+pub mod Flights
+pub mod Turning
+pub mod Advancing
+pub mod Issuing
+pub mod Effects
+pub mod Ran
+pub mod Blocks
+pub mod Drained
+pub mod Stepping
+pub mod Issues

@@ -1,0 +1,4 @@
+pub mod Keeping
+pub mod Fetched
+pub mod Needing
+pub mod Whole

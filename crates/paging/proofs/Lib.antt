@@ -1,0 +1,4 @@
+pub mod Keys
+pub mod Kept
+pub mod Limits
+pub mod Apart

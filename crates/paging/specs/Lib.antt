@@ -1,0 +1,4 @@
+pub mod Pages
+pub mod Limits
+pub mod Laws
+pub mod Example
