@@ -80,7 +80,7 @@ def full_pages(description=WIDE):
 
 
 def dense(count):
-    """256 blocks of so many operations, one in each MultiOp, over all registers: about one pair in four is ordered."""
+    """256 pages of blocks of so many operations, one in each MultiOp, over all registers: about one pair in four is ordered."""
     draw = random.Random(1)
     make = [
         lambda d, s, t: add(d, s, t),
@@ -90,9 +90,9 @@ def dense(count):
         lambda d, s, t: stw(d, s, 4 * t),
     ]
     blocks = []
-    for n in range(256):
+    for entry in (512 * n + count * k for n in range(256) for k in range(512 // count)):
         block = [draw.choice(make)(*(draw.randrange(1, 32) for _ in range(3))) for _ in range(count - 1)]
-        blocks.append((512 * n, block + [halt(0)]))
+        blocks.append((entry, block + [halt(0)]))
     return image(256, blocks, 1_048_576)
 
 

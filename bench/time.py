@@ -1,11 +1,10 @@
-"""Times the built program: `python3 bench/time.py [PROGRAM]`, after `rt ci` or `rt run` has built it.
+"""Times the built program: `python3 bench/time.py [PROGRAM]`, after `rt ci` or `rt run` has built it. It wants `rustc`.
 
-Each line tells the command, the seconds of the quickest of five runs, and the most memory that it took as a multiple of
-its file. The last lines compare `check` and `resched` with plain.rs, plain Rust that does the search for orders and the
-schedules alone, and by all pairs of a block's operations, over images of 256 blocks of so many operations: the nanoseconds
-for each operation, of the program and of plain.rs by turns, and how many times plain.rs's they are. Both write the same file. It wants `rustc`. The images are
-written by another process, so that this one stays small: the system counts its memory, some 10 million bytes, as the
-least that a child takes.
+The first lines tell the command, the seconds of the quickest of five runs, and the most memory that it took (peak.rs) as a
+multiple of its file. The last lines compare `check` and `resched` with plain.rs, plain Rust that does the search for orders
+and the schedules alone, and by all pairs of a block's operations, over images of 256 pages of blocks of so many operations:
+the nanoseconds for each operation, of the program and of plain.rs by turns, and how many times plain.rs's they are. Both
+write the same file.
 """
 
 import os
@@ -18,27 +17,27 @@ import time
 RUNS = 5
 
 
-def run(program, folder, words):
-    """The seconds and the greatest memory of one run."""
-    begun = time.perf_counter()
-    child = subprocess.Popen([program, *words], cwd=folder, stdout=subprocess.DEVNULL)
-    _, status, usage = os.wait4(child.pid, 0)
-    seconds = time.perf_counter() - begun
-    if status != 0:
-        sys.exit(f"{' '.join(words)}: status {status}")
-    return seconds, usage.ru_maxrss * 1024
+def seconds(program, folder, words):
+    """The seconds of the quickest run."""
+    least = None
+    for _ in range(RUNS):
+        begun = time.perf_counter()
+        subprocess.run([program, *words], cwd=folder, stdout=subprocess.DEVNULL, check=True)
+        spent = time.perf_counter() - begun
+        least = spent if least is None else min(least, spent)
+    return least
 
 
-def measure(program, folder, words):
+def compiled(here, folder, name):
+    out = os.path.join(folder, name)
+    subprocess.run(["rustc", "--edition", "2024", "-O", "-o", out, os.path.join(here, f"{name}.rs")], check=True)
+    return out
+
+
+def measure(program, peak, folder, words):
     size = os.path.getsize(os.path.join(folder, words[1]))
-    runs = [run(program, folder, words) for _ in range(RUNS)]
-    seconds, memory = min(r[0] for r in runs), max(r[1] for r in runs)
-    print(f"{' '.join(words)}: {seconds:.3f} s, {memory} bytes, {memory / size:.1f} times the file of {size}")
-    return seconds
-
-
-def least(program, folder, words):
-    return min(run(program, folder, words)[0] for _ in range(RUNS))
+    memory = int(subprocess.run([peak, program, *words], cwd=folder, stdout=subprocess.PIPE, check=True).stdout)
+    print(f"{' '.join(words)}: {seconds(program, folder, words):.3f} s, {memory} bytes, {memory / size:.1f} times the file of {size}")
 
 
 def same(folder, first, second):
@@ -46,34 +45,35 @@ def same(folder, first, second):
         return one.read() == other.read()
 
 
-def compare(program, here, folder):
+def compare(program, plain, folder):
     """`check` and `resched` beside plain.rs, as blocks grow."""
-    plain = os.path.join(folder, "plain")
-    if shutil.which("rustc") is None:
-        sys.exit("no rustc: plain.rs isn't compared")
-    subprocess.run(["rustc", "--edition", "2024", "-O", "-o", plain, os.path.join(here, "plain.rs")], check=True)
     print("operations a block; ns an operation of check, plain, ratio; of resched, plain, ratio")
     for name, count in [("dense_32", 32), ("dense_64", 64), ("dense_128", 128), ("dense_256", 256), ("dense", 500), ("dense_512", 512)]:
-        ours, theirs = (
-            [least(one, folder, words) for words in (["check", name], ["resched", name, "t2", out])]
-            for one, out in ((program, "ours"), (plain, "theirs"))
-        )
+        operations = 256 * (512 // count) * count
+        row = []
+        for words in (["check", name], ["resched", name, "t2"]):
+            times = [seconds(program, folder, words + ["ours"][: len(words) - 2]), seconds(plain, folder, words + ["theirs"][: len(words) - 2])]
+            ours, theirs = (1e9 * spent / operations for spent in times)
+            row.append(f"{ours:.0f}, {theirs:.0f}, {ours / theirs:.3f};")
         if not same(folder, "ours", "theirs"):
             sys.exit(f"{name}: the files differ")
-        pairs = [[1e9 * times[k] / (256 * count) for times in (ours, theirs)] for k in range(2)]
-        print(count, *(f"{x:.0f}, {y:.0f}, {x / y:.3f};" for x, y in pairs))
+        print(count, *row)
 
 
 def main():
+    if shutil.which("rustc") is None:
+        sys.exit("no rustc: plain.rs and peak.rs can't be compiled")
     here = os.path.dirname(os.path.abspath(__file__))
     program = os.path.abspath(sys.argv[1] if len(sys.argv) > 1 else os.path.join(here, "../crates/tinker/out/tinker"))
     with tempfile.TemporaryDirectory() as folder:
         subprocess.run([sys.executable, os.path.join(here, "images.py"), folder], check=True)
-        for name in ["single_words", "single_words_2", "full_pages", "full_pages_2"]:
-            measure(program, folder, ["check", name])
-        measure(program, folder, ["meaning", "loop", "-"])
-        measure(program, folder, ["run", "loop", "own", "-"])
-        compare(program, here, folder)
+        plain, peak = compiled(here, folder, "plain"), compiled(here, folder, "peak")
+        for name in ["single_words", "single_words_2", "full_pages", "full_pages_2", "dense"]:
+            measure(program, peak, folder, ["check", name])
+        measure(program, peak, folder, ["resched", "dense", "t2", "out"])
+        measure(program, peak, folder, ["meaning", "loop", "-"])
+        measure(program, peak, folder, ["run", "loop", "own", "-"])
+        compare(program, plain, folder)
 
 
 main()

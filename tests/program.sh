@@ -77,7 +77,7 @@ ends 'the run behind it' 0 "${report/cycles 0 3/cycles 0 2}" '' "$tinker" run ke
 echo another > kept.0.part
 ends 'a file kept beside another one' 0 'wrote kept 4141' '' "$tinker" resched s1.tnk t2 kept
 ends 'the other one' 0 'another' '' cat kept.0.part
-ends 'what is left beside it' 0 'kept.0.part' '' find . -name 'kept.*'
+ends 'what is left beside it' 0 './kept.0.part' '' find . -name 'kept.*'
 ln -s kept linked
 ends 'a file kept through a link' 0 'wrote linked 4141' '' "$tinker" resched s1.tnk t1 linked
 ends 'the link' 0 'kept' '' readlink linked
