@@ -1,7 +1,6 @@
 -- The operations of the first words of a block, with their times.
-use Rattle.std.proofs.Common.{◌≡◌, ℕ, ◌+◌, ◌-◌, ◌*◌, ◌<◌, ◌≤◌, ◌⊎◌, inl, inr, List, ◌++◌, length, map, take, drop, set, get_or, refl, ap, sym, subst, ◌∙◌, true, false, arith, length-set, get_or-set_same, get_or-set_other}
+use Rattle.std.proofs.Common.{◌≡◌, ℕ, ◌+◌, ◌-◌, ◌*◌, ◌<◌, ◌≤◌, ◌⊎◌, inl, inr, List, length, map, take, drop, set, get_or, refl, ap, sym, subst, ◌∙◌, true, false, arith, length-set, get_or-set_same, get_or-set_other}
 use Rattle.std.specs.Prelude.{sum}
-use Rattle.std.specs.List.{range_with_len}
 use Rattle.std.proofs.lemmas.Bool.{cases_lt}
 use Rattle.std.proofs.lemmas.List.{take-append-le, take-append-drop, take-map, take_all}
 use Rattle.std.proofs.lemmas.List.FromFn.{fill_by_all}
@@ -10,7 +9,7 @@ use Rattle.machine_desc.specs.Description.{Description}
 use Rattle.list_encoding.specs.Word.{is_head, pause_in}
 use Rattle.list_encoding.specs.Reading.{halt}
 use Rattle.list_encoding.specs.Times.{Pace, word_pace, spans, issue_cycle, issue_cycles, block_end}
-use Rattle.list_encoding.proofs.Issues.{heads, heads-take, last_cycle, spans-append, length-spans, Timed, timed_head, timed_other}
+use Rattle.list_encoding.proofs.Issues.{heads, last_cycle, spans-append, length-spans, Timed, timed_head, timed_other}
 use Rattle.timed_meaning.specs.declared.TimedOp.{TimedOp}
 use Rattle.two_timings.specs.Timing.{timed, timed_ops}
 use Rattle.latency_deps.specs.Timing.{ops_of, own_timing}

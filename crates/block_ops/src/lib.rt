@@ -1,8 +1,10 @@
-// The operations of a block's words with their times, written in place.
+// The operations of a block's words, and of a page's, with their times, written in place.
 //
 // It stands on `list_encoding`, which reads words, on `machine_desc` for latencies, and on `latency_deps` for what the
-// operations and the times of words are (its specs/Timing.antt). `time_block` promises just these, and takes no memory: a
-// page's words are read once, when it is loaded, and a machine that plays its blocks reads none.
+// operations and the times of words are (its specs/Timing.antt) and for pages. `time_block` promises just these, and
+// `time_page` promises them for each block of a page whose words are those of its form, in the words of `page_resched`
+// (specs/Page.antt). Neither takes memory: a page's words are read once, when it is loaded, and a machine that plays its
+// blocks reads none.
 #![tactic(auto)]
 
 ghost use Rattle.std.specs.Prelude.{◌≡◌, ◌≤◌, length};
@@ -12,7 +14,9 @@ ghost use Rattle.list_encoding.specs.Reading.{operation_of};
 ghost use Rattle.two_timings.specs.Timing.{timed_ops};
 ghost use Rattle.latency_deps.specs.Timing.{ops_of, own_timing};
 ghost use Rattle.latency_deps.specs.Rules.{end_of};
+ghost use Rattle.block_ops.specs.Page.{ArePageOps};
 
+use latency_deps::GoodPage;
 use list_encoding::{decode, is_head, pause};
 use machine_desc::Generation;
 use operation::{Guarded, Op, lat_kind};
@@ -65,4 +69,25 @@ pub fn time_block<G: Generation>(g: &G, words: &[u64], ops: &mut [TimedOp]) -> u
         ops[k] = timed_op(g, word, present);
     }
     next
+}
+
+/// Writes the operations of a page's blocks with their times under a generation, each block's from its place on, and at each
+/// block's place the cycle in which it ends. `words` are the 512 of the page in whatever form; all other slots are left.
+pub fn time_page<G: Generation>(
+    g: &G,
+    page: &GoodPage,
+    words: &[u64],
+    ops: &mut [TimedOp],
+    ends: &mut [u32],
+)
+    requires whole { length words.now ≡ 512 }
+    requires room { length ops.old ≡ 512 }
+    requires ends { length ends.old ≡ 512 }
+    ensures { ArePageOps (G.description g.now) page.now words.now ops.new ends.new }
+{
+    for k in 0..page.blocks() {
+        let place = page.place(k) as usize;
+        let end = place + page.block(k).count() as usize;
+        ends[place] = time_block(g, &words[place..end], &mut ops[place..end]);
+    }
 }

@@ -117,6 +117,7 @@ impl PageCache {
     pub fn find(&mut self, key: Key) -> Option<Slot>
         ensures found { is_some result ≡ has key (pages_of self.old).resident }
         ensures slot { IfSome result (λ slot. page_in self.new slot ≡ under key (pages_of self.old).resident) }
+        ensures below { IfSome result (λ slot. slot.frame < self.new.frames) }
         ensures pages { pages_of self.new ≡ touch key (pages_of self.old) }
         ensures frames { KeepFrames self.old.held self.new.held }
     {
@@ -150,9 +151,10 @@ impl PageCache {
         requires absent { has key (pages_of self.old).resident ≡ false }
         requires whole { length words.now ≡ 512 }
         requires kept { IfSome (under key self.old.saved) (λ page. page.words ≡ words.now) }
-        ensures { self.new ≡ record self.old {
+        ensures put { self.new ≡ record self.old {
           held = record { frame = result.frame; page = record { key = key; words = words.now } } ∷ self.old.held;
         } }
+        ensures below { result.frame < self.new.frames }
     {
         self.resident.add(key, words)
     }

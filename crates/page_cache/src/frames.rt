@@ -129,9 +129,10 @@ impl Frames {
     pub(crate) fn add(&mut self, key: Key, words: &[u64]) -> Slot
         requires room { length self.old.held < self.old.size }
         requires whole { length words.now ≡ 512 }
-        ensures { self.new ≡ record self.old {
+        ensures held { self.new ≡ record self.old {
           held = self.old.held ++ record { frame = result.frame; page = record { key = key; words = words.now } } ∷ [];
         } }
+        ensures below { result.frame < self.old.size }
     {
         let at = self.free - 1;
         let frame = self.order[at];
@@ -159,7 +160,8 @@ impl Frames {
     /// The frame of the page at a place.
     pub(crate) fn slot(&self, i: usize) -> Slot
         requires { i < length self.now.held }
-        ensures { IfSome (slice_get self.now.held i) (λ h. h.frame ≡ result.frame) }
+        ensures same { IfSome (slice_get self.now.held i) (λ h. h.frame ≡ result.frame) }
+        ensures below { result.frame < self.now.size }
     {
         Slot {
             frame: self.order[self.free + i],

@@ -6,6 +6,8 @@
 // above.
 #![tactic(auto)]
 
+ghost use Rattle.std.specs.Prelude.{◌≡◌};
+
 mod cache;
 mod frames;
 
@@ -18,4 +20,13 @@ pub const WORDS: usize = 512;
 #[derive(Clone, Copy, Debug, PartialEq, Eq)]
 pub struct Slot {
     frame: u16,
+}
+
+impl Slot {
+    /// The number of the frame, below the number of frames.
+    pub fn number(&self) -> u16
+        ensures { result ≡ self.now.frame }
+    {
+        self.frame
+    }
 }

@@ -1,5 +1,5 @@
 -- What a need comes to.
-use Rattle.std.proofs.Common.{◌≡◌, ℕ, Bool, true, false, cond, List, [], ◌∷◌, length, take, drop, ◌++◌, refl, sym, ap, get_or, subst, ◌∙◌, ◌⊎◌, inl, inr, Option, Some, None}
+use Rattle.std.proofs.Common.{◌≡◌, ◌<◌, ℕ, Bool, true, false, cond, List, [], ◌∷◌, length, take, drop, ◌++◌, refl, sym, ap, get_or, subst, ◌∙◌, ◌⊎◌, inl, inr, Option, Some, None}
 use Rattle.std.specs.Prelude.{All, Contains, IfSome, nat_eq, find, option_map, if◌then◌else◌}
 use Rattle.std.proofs.lemmas.Bool.{eq-eqb}
 use Rattle.std.proofs.lemmas.List.{take_at}
@@ -7,6 +7,7 @@ use Rattle.std.proofs.lemmas.List.Elements.{All-nil, All-cons, All-contains}
 use Rattle.tnk_base.specs.declared.Key.{Key}
 use Rattle.paging.specs.Pages.{Page, Pages, Paging, under, has, touch, make_room, put, load, need, one_more}
 use Rattle.paging.proofs.Kept.{found, found_key}
+use Rattle.paging.proofs.Frames.{touch_keeps, room_keeps}
 use Rattle.paging.proofs.Keys.{under_some, untouched, absent_roomy}
 use Rattle.page_cache.specs.declared.Slot.{Slot}
 use Rattle.page_cache.specs.Cache.{Held, Cache, pages_of, page_in, KeepFrames}
@@ -48,9 +49,9 @@ needs_resident page elsewhere p here =
     ap (λ (b : Bool). let q : Paging = cond b (record p { pages = touch page.key p.pages }) (load page elsewhere p) in q) here
 
 pub found_so : (old : Loading) (k : Key) (new : Cache) (slot : Slot) → KeepsForms old.programs old.cache → true ≡ has k (pages_of old.cache).resident →
-    page_in new slot ≡ under k (pages_of old.cache).resident → pages_of new ≡ touch k (pages_of old.cache) → KeepFrames old.cache.held new.held →
+    page_in new slot ≡ under k (pages_of old.cache).resident → slot.frame < new.frames → pages_of new ≡ touch k (pages_of old.cache) → KeepFrames old.cache.held new.held →
     IsNeeded old (record { programs = old.programs; cache = new; loaded = old.loaded; rescheduled = old.rescheduled; restored = old.restored }) k slot
-found_so old k new slot kept here at touched still =
+found_so old k new slot kept here at below touched still =
     let there = under_some k (pages_of old.cache).resident (sym here) in
     let own : there.0.key ≡ k = found_key k (pages_of old.cache).resident there.0 there.1 in
     record {
@@ -61,6 +62,8 @@ found_so old k new slot kept here at touched still =
       paging =
           ap (λ (p : Pages). let q : Paging = record { pages = p; loaded = old.loaded; rescheduled = old.rescheduled; restored = old.restored } in q) (touched ∙ ap (λ (k : Key). touch k (pages_of old.cache)) (sym own))
           ∙ sym (needs_resident there.0 (runs_elsewhere old.programs k) (paging_of old) (ap (λ (k : Key). has k (pages_of old.cache).resident) own ∙ sym here));
+      frame = below;
+      frames_stay = ap (λ (p : Pages). p.frames) touched ∙ touch_keeps k (pages_of old.cache);
       frames = others_kept k old.cache.held new.held still;
       programs = refl;
     }
@@ -128,10 +131,10 @@ still_there old one two a b = kept_twice old.held one.held two.held a b
 -- what has come to be when the page is put
 pub put_so : (old : Loading) (k : Key) (words : List ℕ) (two new : Cache) (slot : Slot) (from : Source) (loaded rescheduled restored : ℕ) →
     false ≡ has k (pages_of old.cache).resident → pages_of two ≡ make_room (pages_of old.cache) → KeepFrames old.cache.held two.held → IsFetched old.programs two (record { key = k; words = words }) from →
-    new ≡ record two { held = record { frame = slot.frame; page = record { key = k; words = words } } ∷ two.held } →
+    new ≡ record two { held = record { frame = slot.frame; page = record { key = k; words = words } } ∷ two.held } → slot.frame < new.frames →
     loaded ≡ one_more old.loaded → rescheduled ≡ (if is_moved from then one_more old.rescheduled else old.rescheduled) → restored ≡ (if is_restored from then one_more old.restored else old.restored) →
     IsNeeded old (record { programs = old.programs; cache = new; loaded = loaded; rescheduled = rescheduled; restored = restored }) k slot
-put_so old k words two new slot from loaded rescheduled restored none roomy still fetched is a b c =
+put_so old k words two new slot from loaded rescheduled restored none roomy still fetched is below a b c =
     let page : Page = record { key = k; words = words } in
     record {
       page = page;
@@ -142,6 +145,8 @@ put_so old k words two new slot from loaded rescheduled restored none roomy stil
           paging_as (pages_of new) (put page (pages_of two)) loaded (one_more old.loaded) rescheduled (if is_moved from then one_more old.rescheduled else old.rescheduled) restored (if is_restored from then one_more old.restored else old.restored)
           (ap pages_of is) a b c
           ∙ loaded_as old.programs page (paging_of old) two from (sym none) roomy fetched.came;
+      frame = below;
+      frames_stay = ap (λ (c : Cache). c.frames) is ∙ ap (λ (p : Pages). p.frames) roomy ∙ room_keeps (pages_of old.cache);
       frames =
           subst (λ (l : List Held). KeepOtherFrames k old.cache.held l) (sym (ap (λ (c : Cache). c.held) is))
           (put_beside k old.cache.held two.held (record { frame = slot.frame; page = page }) refl still);

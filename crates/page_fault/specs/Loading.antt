@@ -58,12 +58,15 @@ counts_of l = record { loaded = l.loaded; rescheduled = l.rescheduled; restored 
 abbrev pub KeepOtherFrames : Key → List Held → List Held → Type 0
 KeepOtherFrames k old new = All (λ h. (h.page.key ≡ k) ⊎ Contains old h) new
 
--- what a key's need comes to: its page, in its form, stands in the slot, and the lists and counts are those of its need
+-- what a key's need comes to: its page, in its form, stands in the slot, which is one of the frames, and the lists and counts are
+-- those of its need
 pub record IsNeeded (old new : Loading) (k : Key) (slot : Slot) : Type 0 where
   pub page : Page
   pub stands : page_in new.cache slot ≡ Some page
   pub key : page.key ≡ k
   pub form : HasForm old.programs page
   pub paging : paging_of new ≡ need page (runs_elsewhere old.programs k) (paging_of old)
+  pub frame : slot.frame < new.cache.frames
+  pub frames_stay : new.cache.frames ≡ old.cache.frames
   pub frames : KeepOtherFrames k old.cache.held new.cache.held
   pub programs : new.programs ≡ old.programs

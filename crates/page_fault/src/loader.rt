@@ -9,6 +9,7 @@ ghost use Rattle.page_fault.specs.Fetching.{is_restored, is_moved};
 use super::Loaded;
 use super::fetching::{Source, fetch};
 use image_check::Accepted;
+use machine_desc::Mdes;
 use page_cache::{PageCache, Slot, WORDS};
 use page_resched::Resched;
 use std::alloc::Global;
@@ -113,6 +114,14 @@ impl Loader {
         &self.programs[program as usize].image
     }
 
+    /// The description of the generation that a program runs as.
+    pub fn chosen(&self, program: u8) -> &Mdes
+        requires { program < length self.now.programs }
+        ensures { IfSome (slice_get self.now.programs program) (λ p. p.chosen ≡ result.now) }
+    {
+        &self.programs[program as usize].chosen
+    }
+
     /// The number of pages of a program.
     fn pages(&self, program: u8) -> usize
         requires { program < length self.now.programs }
@@ -158,6 +167,7 @@ impl Loader {
         ensures found { result ≡ has key (pages_of self.old.cache).resident }
         ensures paging { paging_of self.new ≡ record (paging_of self.old) { pages = evict key (pages_of self.old.cache) } }
         ensures frames { KeepFrames self.old.cache.held self.new.cache.held }
+        ensures frames_stay { self.new.cache.frames ≡ self.old.cache.frames }
         ensures programs { self.new.programs ≡ self.old.programs }
     {
         self.cache.evict(key)

@@ -1,4 +1,5 @@
 pub mod Keys
 pub mod Kept
+pub mod Frames
 pub mod Limits
 pub mod Apart

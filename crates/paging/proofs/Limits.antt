@@ -7,6 +7,7 @@ use Rattle.tnk_base.specs.declared.Key.{Key}
 use Rattle.paging.specs.Pages.{Page, Pages, Paging, same_key, under, has, without, with_room, touch, with_saved, evict, last, make_room, put, drop_saved, load, need, one_more}
 use Rattle.paging.specs.Limits.{AreWithin}
 use Rattle.paging.proofs.Keys.{same_key_self}
+use Rattle.paging.proofs.Frames.{evict_keeps}
 
 -- leaving a key out makes no list longer, and one that has it shorter
 not_longer : (k : Key) (xs : List Page) → length (without k xs) ≤ length xs
@@ -98,14 +99,6 @@ gone k p page at =
     subst (λ (o : Option Page). let q : Pages = elim o [ None ↦ p | Some page ↦ record p { resident = without k p.resident; saved = with_saved p.most_saved page p.saved; evicted = one_more p.evicted } ] in length q.resident < length p.resident)
     (sym at) (shorter k p.resident page at)
 
-frames_kept : (k : Key) (p : Pages) → (evict k p).frames ≡ p.frames
-frames_kept k p = go (under k p.resident)
-  where
-    go : (o : Option Page) →
-        let q : Pages = elim o [ None ↦ p | Some page ↦ record p { resident = without k p.resident; saved = with_saved p.most_saved page p.saved; evicted = one_more p.evicted } ] in q.frames ≡ p.frames
-    go None = refl
-    go (Some page) = refl
-
 room_within : (p : Pages) → AreWithin p → AreWithin (make_room p) × (length (make_room p).resident < (make_room p).frames)
 room_within p h = go (nat_lt (length p.resident) p.frames) refl (last p) refl
   where
@@ -120,7 +113,7 @@ room_within p h = go (nat_lt (length p.resident) p.frames) refl (last p) refl
         let there = found_there p.resident (length p.resident - 1) page f in
         let less : length (evict page.key p).resident < length p.resident = gone page.key p there.0 there.1 in
         let all : length p.resident ≤ p.frames = h.resident in
-        let same : (evict page.key p).frames ≡ p.frames = frames_kept page.key p in
+        let same : (evict page.key p).frames ≡ p.frames = evict_keeps page.key p in
         (evict_within page.key p h, omega arith)
 
 put_within : (page : Page) (p : Pages) → AreWithin p → length p.resident < p.frames → AreWithin (put page p)

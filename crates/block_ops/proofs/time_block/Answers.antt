@@ -1,4 +1,4 @@
-use Rattle.std.proofs.Common.{ℕ, ◌+◌, length, set, get_or, ap, sym, subst, ◌∙◌, arith}
+use Rattle.std.proofs.Common.{◌+◌, set, get_or, ap, sym, subst, ◌∙◌, arith}
 use Rattle.list_encoding.specs.Word.{pause_in}
 use Rattle.block_ops.proofs.Filled.{IsTimedTo, more_head, more_other, all_ops}
 use Rattle.block_ops.proofs.time_block.Goals as goal

@@ -26,7 +26,7 @@ returns-in-Some c =
     let old : Loading = record { programs = programs; cache = c.self.inside.cache; loaded = c.self.inside.loaded; rescheduled = c.self.inside.rescheduled; restored = c.self.inside.restored } in
     let new : Loading = record { programs = programs; cache = c.find.new.self; loaded = c.self.inside.loaded; rescheduled = c.self.inside.rescheduled; restored = c.self.inside.restored } in
     subst (λ (l : Loading). IsNeeded l new c.args.key c.in-Some.slot) c.self.view_is
-    (found_so old c.args.key c.find.new.self c.in-Some.slot c.self.invariant.forms c.in-Some.ensures.found c.in-Some.ensures.slot c.find.ensures.pages c.find.ensures.frames)
+    (found_so old c.args.key c.find.new.self c.in-Some.slot c.self.invariant.forms c.in-Some.ensures.found c.in-Some.ensures.slot c.in-Some.ensures.below c.find.ensures.pages c.find.ensures.frames)
 
 pub put-requires-clause-absent : goal.put-requires-clause-absent
 put-requires-clause-absent c =
@@ -53,7 +53,7 @@ invariant_of-self-in-None c =
           (kept_roomy programs c.find.new.self c.make_room.new.self
           (kept_touched programs c.self.inside.cache c.find.new.self c.args.key c.self.invariant.forms c.find.ensures.pages) c.make_room.ensures.pages)
           (subst (λ (w : List ℕ). IsFetched programs c.make_room.new.self (record { key = c.args.key; words = w }) c.fetch-from.result) (sym (c.deref.ensures.value ∙ back.0)) c.fetch-from.ensures)
-          c.put.ensures;
+          c.put.ensures.put;
       room = ap length back.0 ∙ back.1;
     }
 
@@ -71,6 +71,6 @@ returns-in-None c =
     (roomy_so c.args.key p (pages_of c.find.new.self) (pages_of c.make_room.new.self) c.in-None.ensures.found c.find.ensures.pages c.make_room.ensures.pages)
     (still_there c.self.inside.cache c.find.new.self c.make_room.new.self c.find.ensures.frames c.make_room.ensures.frames)
     (subst (λ (w : List ℕ). IsFetched programs c.make_room.new.self (record { key = c.args.key; words = w }) c.fetch-from.result) (sym (c.deref.ensures.value ∙ back.0)) c.fetch-from.ensures)
-    c.put.ensures c.more-self-inside-in-None-2.ensures
+    c.put.ensures.put c.put.ensures.below c.more-self-inside-in-None-2.ensures
     (c.more-self-inside-in-None.ensures ∙ ap (λ (b : Bool). if b then one_more c.self.inside.rescheduled else c.self.inside.rescheduled) c.was_moved.ensures)
     (c.more-self-inside.ensures ∙ ap (λ (b : Bool). if b then one_more c.self.inside.restored else c.self.inside.restored) c.was_saved.ensures))
