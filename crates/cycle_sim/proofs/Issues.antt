@@ -25,7 +25,6 @@ use Rattle.cycle_sim.specs.MultiOps.{at_cycle, start_of, came_to, ran_in_order, 
 use Rattle.cycle_sim.specs.declared.Issued.TheVariants as issued
 use Rattle.cycle_sim.specs.Machine.{block_of_ops, told, told_end, IsReady, StandsBehind}
 use Rattle.cycle_sim.specs.Whole.{moment_of}
-use Rattle.cycle_sim.specs.Laws.{SoundAnywhere}
 use Rattle.cycle_sim.proofs.Blocks
 use Rattle.cycle_sim.proofs.Drained.{LandBy, RanBy, ran_by, came_by, flight_by}
 use Rattle.cycle_sim.proofs.Stepping.{step_order, cells_alone}
@@ -34,9 +33,9 @@ pub same_moment : (t u : ℕ) (s s' : State) (l l' : List Write) (a b : Option A
     ◌≡◌ {A = Moment} (record { clock = t; state = s; later = l; answer = a; cycles = n }) (record { clock = u; state = s'; later = l'; answer = b; cycles = k })
 same_moment t u s s' l l' a b n k e f g h i = cc
 
-module _ (ops : List TimedOp) (end : ℕ) (next : Option ℕ) (sound : IsSoundBlock (block_of_ops ops end next)) where
+module _ (entry : ℕ) (ops : List TimedOp) (end : ℕ) (next : Option ℕ) (sound : IsSoundBlock (block_of_ops entry ops end next)) where
   abbrev b : Block
-  b = block_of_ops ops end next
+  b = block_of_ops entry ops end next
 
   order : InOrder ops
   order = in_order ops (sound_lem b sound).rising
@@ -156,10 +155,10 @@ module _ (ops : List TimedOp) (end : ℕ) (next : Option ℕ) (sound : IsSoundBl
             }
 
 -- the end of a block, whatever its answer
-pub stands_end : (b : Block) (next : Option ℕ) (a : Answer) (m : Moment) → m ≡ at_entry m.state m.cycles → StandsBehind b (told_end next a) m
-stands_end b next GoOn m h = h
-stands_end b next (GoTo to) m h = h
-stands_end b next (Stop code) m h = h
+pub stands_end : (b : Block) (entry : ℕ) (next : Option ℕ) (a : Answer) (m : Moment) → m ≡ at_entry m.state m.cycles → StandsBehind b (told_end entry next a) m
+stands_end b entry next GoOn m h = h
+stands_end b entry next (GoTo to) m h = h
+stands_end b entry next (Stop code) m h = h
 
 -- ---- a block's entry
 
@@ -177,17 +176,4 @@ entry_ready b s n =
       few = omega arith;
       before = omega arith;
       landing = All-from_recursion (λ v. v.lands ≤ b.end) [] tt;
-    }
-
-pub sound_anywhere_lem : SoundAnywhere
-sound_anywhere_lem b h =
-    record {
-      some = h.some;
-      few = h.few;
-      short = h.short;
-      in_order = h.in_order;
-      latencies = h.latencies;
-      drained = h.drained;
-      one_branch = h.one_branch;
-      branch_end = h.branch_end;
     }

@@ -1,10 +1,9 @@
 -- What a machine holds, and what an issue comes to.
-use Rattle.std.specs.Prelude.{ℕ, ◌≡◌, ◌≤◌, ◌*◌, Bool, true, false, List, [], length, All, Option}
+use Rattle.std.specs.Prelude.{ℕ, ◌≡◌, ◌≤◌, ◌*◌, Bool, true, false, List, [], length, All, Option, Some, None}
 use Rattle.timed_meaning.specs.declared.Answer.{Answer}
 use Rattle.timed_meaning.specs.declared.Answer.TheVariants.{GoOn, GoTo, Stop}
 use Rattle.timed_meaning.specs.declared.TimedOp.{TimedOp}
 use Rattle.timed_meaning.specs.Values.{State}
-use Rattle.timed_meaning.specs.Block.{entry_or_zero}
 use Rattle.timed_meaning.specs.Program.{Block, first_state}
 use Rattle.block_steps.specs.Steps.{Moment, Outcome, Going, AtEnd, AtTrap, at_entry, place_at}
 use Rattle.cycle_sim.specs.declared.Issued.{Issued}
@@ -17,9 +16,9 @@ pub record Simulated : Type 0 where
   pub input : List ℕ
   pub limit : ℕ
 
--- the block of some operations that ends in a cycle, before the row with an entry. Its own entry isn't asked
-abbrev pub block_of_ops : List TimedOp → ℕ → Option ℕ → Block
-block_of_ops ops end next = record { entry = 0; next = next; ops = ops; end = end }
+-- the block with this entry of some operations that ends in a cycle, before the row with an entry
+abbrev pub block_of_ops : ℕ → List TimedOp → ℕ → Option ℕ → Block
+block_of_ops entry ops end next = record { entry = entry; next = next; ops = ops; end = end }
 
 -- the first state of a program with so much memory and its initial bytes
 abbrev pub start_state : ℕ → List ℕ → State
@@ -33,16 +32,22 @@ pub record IsReady (b : Block) (at : ℕ) (m : Moment) : Type 0 where
   pub before : m.clock ≤ b.end
   pub landing : All (λ w. w.lands ≤ b.end) m.later
 
--- the answer of an issue at a block's end, by the branch's answer and the entry of the next row
-abbrev pub told_end : Option ℕ → Answer → Issued
-told_end next GoOn = issued.BlockEnd (entry_or_zero next)
-told_end next (GoTo to) = issued.BlockEnd to
-told_end next (Stop code) = issued.Halted code
+-- where control goes from a block whose branch isn't taken: to the next row. It stays at the last one, which always leaves in
+-- a sound program
+abbrev pub goes_on_to : (entry : ℕ) → (next : Option ℕ) → ℕ
+goes_on_to entry None = entry
+goes_on_to entry (Some to) = to
+
+-- the answer of an issue at a block's end, by the branch's answer
+abbrev pub told_end : (entry : ℕ) → (next : Option ℕ) → Answer → Issued
+told_end entry next GoOn = issued.BlockEnd (goes_on_to entry next)
+told_end entry next (GoTo to) = issued.BlockEnd to
+told_end entry next (Stop code) = issued.Halted code
 
 -- the answer of an issue, by how the step comes out
 abbrev pub told : Block → Moment × Outcome → Issued
 told b (m, Going) = issued.Going (place_at m.clock b.ops)
-told b (m, AtEnd answer) = told_end b.next answer
+told b (m, AtEnd answer) = told_end b.entry b.next answer
 told b (m, AtTrap t k) = issued.Trapped k t
 
 -- a machine stops at a halt and at a trap

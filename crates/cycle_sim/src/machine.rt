@@ -41,12 +41,12 @@ fn finish(registers: &mut Registers, work: &mut Work, clock: u32, end: u32)
     work.answer = None;
 }
 
-/// How a block's end comes out, by the branch's answer and the entry of the next row.
-fn ended(answer: Option<Answer>, next: Option<u32>) -> Issued
-    ensures { result ≡ told_end next (or_go_on answer) }
+/// How the end of a block comes out, by its branch's answer, its entry and that of the next row.
+fn ended(answer: Option<Answer>, entry: u32, next: Option<u32>) -> Issued
+    ensures { result ≡ told_end entry next (or_go_on answer) }
 {
     match answer {
-        None | Some(Answer::GoOn) => Issued::BlockEnd(next.unwrap_or(0)),
+        None | Some(Answer::GoOn) => Issued::BlockEnd(next.unwrap_or(entry)),
         Some(Answer::GoTo(to)) => Issued::BlockEnd(to),
         Some(Answer::Stop(code)) => Issued::Halted(code),
     }
@@ -60,20 +60,21 @@ fn issue_parts(
     cycles: &mut u64,
     input: &[u8],
     limit: u32,
+    entry: u32,
     ops: &[TimedOp],
     end: u32,
     at: u16,
     next: Option<u32>,
 ) -> Issued
     requires machine { IsMachine registers.old work.old limit }
-    requires sound { IsSoundBlock (block_of_ops ops.now end next) }
-    requires ready { IsReady (block_of_ops ops.now end next) at (moment_of registers.old work.old clock.old cycles.old) }
+    requires sound { IsSoundBlock (block_of_ops entry ops.now end next) }
+    requires ready { IsReady (block_of_ops entry ops.now end next) at (moment_of registers.old work.old clock.old cycles.old) }
     ensures machine { IsMachine registers.new work.new limit }
     ensures moment { moment_of registers.new work.new clock.new cycles.new
-        ≡ (step input.now limit (block_of_ops ops.now end next) (moment_of registers.old work.old clock.old cycles.old)).0 }
-    ensures answer { result ≡ told (block_of_ops ops.now end next)
-        (step input.now limit (block_of_ops ops.now end next) (moment_of registers.old work.old clock.old cycles.old)) }
-    ensures stands { StandsBehind (block_of_ops ops.now end next) result (moment_of registers.new work.new clock.new cycles.new) }
+        ≡ (step input.now limit (block_of_ops entry ops.now end next) (moment_of registers.old work.old clock.old cycles.old)).0 }
+    ensures answer { result ≡ told (block_of_ops entry ops.now end next)
+        (step input.now limit (block_of_ops entry ops.now end next) (moment_of registers.old work.old clock.old cycles.old)) }
+    ensures stands { StandsBehind (block_of_ops entry ops.now end next) result (moment_of registers.new work.new clock.new cycles.new) }
 {
     let from = at as usize;
     let (place, trap) = issue_multi_op(registers, input, next, limit, *clock, ops, from, work);
@@ -93,7 +94,7 @@ fn issue_parts(
     finish(registers, work, *clock, end);
     *cycles = cycles.saturating_add(end as u64);
     *clock = 0;
-    ended(answer, next)
+    ended(answer, entry, next)
 }
 
 fn is_over(issued: Issued) -> bool
@@ -199,17 +200,25 @@ impl Machine {
         })
     }
 
-    /// The MultiOp at a place of a block issues, and the clock moves to the next one or the block is over. `ops` are the
-    /// block's operations with their times, `end` is the cycle in which it ends, and `next` the entry of the row behind it.
+    /// The MultiOp at a place of a block issues, and the clock moves to the next one or the block is over. The block has this
+    /// entry; `ops` are its operations with their times, `end` is the cycle in which it ends, and `next` the entry of the row
+    /// behind it.
     /// It takes no memory, and a machine that has stopped, after `Halted` or `Trapped`, issues no more.
-    pub fn issue(&mut self, ops: &[TimedOp], end: u32, at: u16, next: Option<u32>) -> Issued
+    pub fn issue(
+        &mut self,
+        entry: u32,
+        ops: &[TimedOp],
+        end: u32,
+        at: u16,
+        next: Option<u32>,
+    ) -> Issued
         requires running { self.old.stopped ≡ false }
-        requires sound { IsSoundBlock (block_of_ops ops.now end next) }
-        requires ready { IsReady (block_of_ops ops.now end next) at self.old.moment }
-        ensures moment { self.new.moment ≡ (step self.old.input self.old.limit (block_of_ops ops.now end next) self.old.moment).0 }
+        requires sound { IsSoundBlock (block_of_ops entry ops.now end next) }
+        requires ready { IsReady (block_of_ops entry ops.now end next) at self.old.moment }
+        ensures moment { self.new.moment ≡ (step self.old.input self.old.limit (block_of_ops entry ops.now end next) self.old.moment).0 }
         ensures answer { result
-            ≡ told (block_of_ops ops.now end next) (step self.old.input self.old.limit (block_of_ops ops.now end next) self.old.moment) }
-        ensures stands { StandsBehind (block_of_ops ops.now end next) result self.new.moment }
+            ≡ told (block_of_ops entry ops.now end next) (step self.old.input self.old.limit (block_of_ops entry ops.now end next) self.old.moment) }
+        ensures stands { StandsBehind (block_of_ops entry ops.now end next) result self.new.moment }
         ensures stopped { self.new.stopped ≡ has_stopped result }
         ensures input { self.new.input ≡ self.old.input }
         ensures limit { self.new.limit ≡ self.old.limit }
@@ -221,6 +230,7 @@ impl Machine {
             &mut self.cycles,
             &self.input,
             self.limit,
+            entry,
             ops,
             end,
             at,
