@@ -1,5 +1,5 @@
 -- Several contexts beside the pages of their programs.
-use Rattle.std.specs.Prelude.{ℕ, zero, suc, ◌≡◌, ◌<◌, ◌/◌, Bool, not, ◌&&◌, List, [], ◌∷◌, ◌++◌, length, map, IfSome, Some, None, slice_get, slice_set, bytes_eq}
+use Rattle.std.specs.Prelude.{ℕ, zero, suc, ◌≡◌, ◌<◌, ◌/◌, Bool, not, ◌&&◌, List, [], ◌∷◌, ◌++◌, length, map, IsSomeAnd, Some, None, slice_get, slice_set, bytes_eq}
 use Rattle.std.specs.List.{position_or_len, range_with_len}
 use Rattle.tnk_base.specs.declared.Key.{Key}
 use Rattle.machine_desc.specs.Same.{are_same}
@@ -86,7 +86,7 @@ first setups frames most_saved = record { contexts = map opened setups; paging =
 
 -- a key is that of a page of a program
 abbrev pub IsKeyOf : List Context → Key → Type 0
-IsKeyOf xs k = IfSome (slice_get xs k.program) (λ x. (k ≡ key_of xs x.setup k.page) × (k.page < page_count x.setup.image))
+IsKeyOf xs k = IsSomeAnd (slice_get xs k.program) (λ x. (k ≡ key_of xs x.setup k.page) × (k.page < page_count x.setup.image))
 
 -- an event whose context, or whose program and page, are there
 abbrev pub Admits : System → Event → Type 0

@@ -18,8 +18,9 @@ use Rattle.page_resched.proofs.Words.{full_count}
 use Rattle.page_resched.proofs.One.{one_form}
 use Rattle.page_resched.proofs.Written.{each_block_has_a_form}
 use Rattle.image_resched.specs.Rescheduled.{AreWordsInForm, IsRescheduled, with_words, words_at}
-use Rattle.image_resched.specs.Laws.{IsMovable, EachIsRescheduled}
+use Rattle.image_resched.specs.Laws.{IsMovable, EachIsRescheduled, FormsAreThere}
 use Rattle.block_table.proofs.Gaps.{in_block}
+use Rattle.image_resched.proofs.Deciding.{cases_movable}
 use Rattle.image_resched.proofs.Rows.{row_of, in_row, same_lists}
 
 module _ (image : Image) (g : Description) (m : IsMovable image g) where
@@ -131,3 +132,14 @@ each_is_rescheduled image g m = go (cases_description image.description g)
         other = λ n. (words image g m, in_form image g m, refl);
       },
     )
+
+-- an image where there is one, and else the image itself
+form_where : (image : Image) (g : Description) → (IsMovable image g) ⊎ (IsMovable image g → ⊥) → (new : Image) × (IsMovable image g → IsRescheduled image g new)
+form_where image g (inl m) = let f = each_is_rescheduled image g m in (f.0, λ h. f.1)
+form_where image g (inr n) = (image, λ m. absurd (n m))
+
+pub forms_are_there : FormsAreThere
+forms_are_there = (
+  λ image g. (form_where image g (cases_movable image g)).0,
+  λ image g. (form_where image g (cases_movable image g)).1,
+)

@@ -5,6 +5,7 @@ pub mod Accepted
 pub mod Same
 pub mod Files
 pub mod One
+pub mod Deciding
 pub mod Exists
 pub mod Pages
 pub mod Gathered

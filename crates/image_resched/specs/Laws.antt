@@ -69,6 +69,18 @@ OneRescheduled =
 abbrev pub EachIsRescheduled : Type 0
 EachIsRescheduled = (image : Image) (g : Description) → IsMovable image g → (new : Image) × IsRescheduled image g new
 
+-- what gives images in other generations
+abbrev pub Forms : Type 0
+Forms = Image → Description → Image
+
+-- each accepted image as it is in each generation that has its units
+abbrev pub AreForms : Forms → Type 0
+AreForms forms = (image : Image) (g : Description) → IsMovable image g → IsRescheduled image g (forms image g)
+
+-- there is such a function
+abbrev pub FormsAreThere : Type 0
+FormsAreThere = (forms : Forms) × AreForms forms
+
 -- the words of an image are in form where those of each page are
 abbrev pub PagesMakeTheImage : Type 0
 PagesMakeTheImage =

@@ -1,5 +1,5 @@
 // What holds of images in other generations, each as the contract of a function that does nothing.
-ghost use Rattle.image_resched.specs.Laws.{RescheduledIsAccepted, RescheduledMeansTheSame, RescheduledKeepsBefore, RescheduledMovesOn, RescheduledFilesAreAccepted, OneRescheduled, EachIsRescheduled, PagesMakeTheImage, RescheduledKeepsTheShape};
+ghost use Rattle.image_resched.specs.Laws.{RescheduledIsAccepted, RescheduledMeansTheSame, RescheduledKeepsBefore, RescheduledMovesOn, RescheduledFilesAreAccepted, OneRescheduled, EachIsRescheduled, FormsAreThere, PagesMakeTheImage, RescheduledKeepsTheShape};
 
 /// The image in another generation that has the units is accepted.
 pub fn rescheduled_is_accepted()
@@ -34,6 +34,11 @@ pub fn one_rescheduled()
 /// An accepted image has an image in each generation that has its units.
 pub fn each_is_rescheduled()
     ensures { EachIsRescheduled }
+{}
+
+/// There is a function that gives each accepted image as it is in each generation that has its units.
+pub fn forms_are_there()
+    ensures { FormsAreThere }
 {}
 
 /// The words of an image are in form where those of each page are.

@@ -9,4 +9,4 @@
 pub mod laws;
 mod moving;
 
-pub use moving::reschedule;
+pub use moving::{described, reschedule};

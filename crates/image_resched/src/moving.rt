@@ -70,7 +70,7 @@ fn busy_times<G: Generation>(g: &G) -> [u8; 9]
 }
 
 /// A generation's numbers as a value.
-fn described<G: Generation>(g: &G) -> Mdes
+pub fn described<G: Generation>(g: &G) -> Mdes
     ensures { description_of result ≡ G.description g.now }
 {
     Mdes::with_busy(g.width(), units(g), latencies(g), busy_times(g)).unwrap()
