@@ -1,0 +1,12 @@
+pub mod Formed
+pub mod Frames
+pub mod Lists
+pub mod Entries
+pub mod Systems
+pub mod Onward
+pub mod Turned
+pub mod Playing
+pub mod Turns
+pub mod Paged
+pub mod Rounds
+pub mod Opened

@@ -1,0 +1,3 @@
+pub mod Core
+pub mod Standing
+pub mod Going
