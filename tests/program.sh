@@ -56,10 +56,13 @@ end halted 0
 blocks 1
 output 1
 41
-cycles 0 3'
+cycles 0 3
+pages loaded 1 rescheduled 0 restored 0 evicted 0'
+moved=${report/cycles 0 3/cycles 0 2}
 
 # Each status.
 ends 'a run' 0 "$report" '' "$tinker" run s1.tnk own -
+ends 'a run on another generation' 0 "${moved/rescheduled 0/rescheduled 1}" '' "$tinker" run frames=1 saved=0 s1.tnk t2 -
 ends 'the version' 0 'tinker 0.1' '' "$tinker" --version
 ends 'a refusal' 1 'refused empty F1 Magic' '' "$tinker" check empty
 ends 'no words' 2 'usage: see the manual' '' "$tinker"
@@ -71,9 +74,9 @@ shell 'no memory' 4 '' 'tinker: out of memory' 'ulimit -v 5000; exec "$0" check 
 echo old > kept
 ends 'a kept file' 0 'wrote kept 4141' '' "$tinker" resched s1.tnk t2 kept
 ends 'its size' 0 '4141 kept' '' wc -c kept
-ends 'its run' 0 "${report/cycles 0 3/cycles 0 2}" '' "$tinker" run kept own -
+ends 'its run' 0 "$moved" '' "$tinker" run kept own -
 ends 'a chain back' 0 'wrote kept 4141' '' "$tinker" resched kept t1 kept
-ends 'the run behind it' 0 "${report/cycles 0 3/cycles 0 2}" '' "$tinker" run kept own -
+ends 'the run behind it' 0 "$moved" '' "$tinker" run kept own -
 echo another > kept.0.part
 ends 'a file kept beside another one' 0 'wrote kept 4141' '' "$tinker" resched s1.tnk t2 kept
 ends 'the other one' 0 'another' '' cat kept.0.part

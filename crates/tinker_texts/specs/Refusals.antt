@@ -77,6 +77,10 @@ unit_letter unit.B = codes "B"
 abbrev pub no_unit_text : UnitKind → List ℕ
 no_unit_text k = codes "NoUnit " ++ unit_letter k
 
+-- what is refused where it is a context: its number
+abbrev pub context_name : ℕ → List ℕ
+context_name i = codes "context " ++ decimal i
+
 -- the one line of a refusal: what is refused, and why
 abbrev pub refused_line : (name why : List ℕ) → List ℕ
 refused_line name why = codes "refused " ++ (name ++ (codes " " ++ (why ++ codes "\n")))

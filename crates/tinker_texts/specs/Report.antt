@@ -77,6 +77,12 @@ part i dump end blocks output memory = heading i end blocks (length output) ++ (
 unfoldable pub cycles_line : ℕ → ℕ → List ℕ
 cycles_line i n = codes "cycles " ++ decimal i ++ codes " " ++ decimal n ++ codes "\n"
 
+-- how often a page was loaded into a frame, rescheduled or restored for that, and evicted
+unfoldable pub pages_line : (loaded rescheduled restored evicted : ℕ) → List ℕ
+pages_line loaded rescheduled restored evicted =
+    codes "pages loaded " ++ (decimal loaded ++ (codes " rescheduled " ++ (decimal rescheduled ++ (codes " restored "
+    ++ (decimal restored ++ (codes " evicted " ++ (decimal evicted ++ codes "\n")))))))
+
 -- the line of an accepted image, by its numbers of pages, blocks and words in blocks
 unfoldable pub accepted_line : List ℕ → (pages blocks words : ℕ) → List ℕ
 accepted_line name pages blocks words =

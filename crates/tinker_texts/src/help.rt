@@ -19,12 +19,12 @@ fn commands() -> &'static [u8]
 {
     b"\
 tinker: old VLIW object code on newer machine generations, with proved answers
-tinker check IMAGE                     says whether an image is accepted, or which rule it breaks first
-tinker meaning [SETTINGS] IMAGE INPUT  runs an image by its definition: how it ends, and what it puts out
-tinker run [SETTINGS] IMAGE own INPUT  runs an image on its own generation, and tells its cycles
-tinker resched IMAGE GENERATION OUT    writes an image for another generation, which means the same
-tinker --help                          puts out this page
-tinker --version                       puts out the version
+tinker check IMAGE                            says whether an image is accepted, or which rule it breaks first
+tinker meaning [SETTINGS] IMAGE INPUT         runs an image by its definition: how it ends, and what it puts out
+tinker run [SETTINGS] IMAGE GENERATION INPUT  runs an image on a generation, page by page, and tells its cycles
+tinker resched IMAGE GENERATION OUT           writes an image for another generation, which means the same
+tinker --help                                 puts out this page
+tinker --version                              puts out the version
 "
 }
 
@@ -36,6 +36,8 @@ fn rest() -> &'static [u8]
     b"\
 INPUT is a file, or - for an empty input. GENERATION is own, t1, t2, t3 or a description file.
 SETTINGS, in any order, each at most once:
+  frames=N  has N frames for pages, for run alone: 1 to 1024, else 16
+  saved=N   saves at most N evicted pages, for run alone: 0 to 1024, else 16
   bound=N   runs at most N blocks: 1 to 1000000, else 100000
   limit=N   takes at most N bytes of output: 1 to 1048576, else 65536
   dump=yes  shows the memory that isn't 0

@@ -9,5 +9,5 @@ mod refusals;
 mod report;
 
 pub use help::{page, version};
-pub use refusals::{broken, no_unit, too_long, undescribed};
-pub use report::{accepted, push_cycles, push_part, wrote};
+pub use refusals::{broken, no_unit, no_unit_for_context, too_long, undescribed};
+pub use report::{accepted, push_cycles, push_pages, push_part, wrote};

@@ -1,6 +1,6 @@
 // How a refused file is told.
 ghost use Rattle.std.specs.Prelude.{Some, ◌≡◌, ◌++◌, IfOk, codes};
-ghost use Rattle.tinker_texts.specs.Refusals.{rule_name, place, refusal_text, too_long_text, mdes_fault_text, unit_letter, no_unit_text, refused_line};
+ghost use Rattle.tinker_texts.specs.Refusals.{rule_name, place, refusal_text, too_long_text, mdes_fault_text, unit_letter, no_unit_text, context_name, refused_line};
 
 use image_check::{Refusal, Rule};
 use machine_desc::{MdesFault, key_name};
@@ -146,5 +146,14 @@ pub fn no_unit(alloc: Global, name: &str, k: UnitKind) -> Result<Vec<u8>, AllocE
 {
     let letter = letter(k);
     let line = format!(in alloc; "refused {name} NoUnit {letter}\n")?;
+    Ok(line.into_bytes())
+}
+
+/// The line of a context whose image uses a unit kind of which its generation has none.
+pub fn no_unit_for_context(alloc: Global, index: u8, k: UnitKind) -> Result<Vec<u8>, AllocError>
+    ensures { IfOk result (λ line. line.items ≡ refused_line (context_name index) (no_unit_text k)) }
+{
+    let letter = letter(k);
+    let line = format!(in alloc; "refused context {index} NoUnit {letter}\n")?;
     Ok(line.into_bytes())
 }

@@ -2,7 +2,7 @@
 ghost use Rattle.std.specs.Prelude.{Some, ◌≡◌, ◌<◌, ◌≤◌, ◌*◌, ◌^◌, ◌++◌, ◌∷◌, [], length, map, sum, nat_eq, OnOk, IfOk, string_bytes, encode_utf8};
 ghost use Rattle.std.specs.List.{list_all};
 ghost use Rattle.image_format.specs.Parts.{image_of};
-ghost use Rattle.tinker_texts.specs.Report.{kind_name as name_of, end_text, hex, hex_digit as digit_of, hex_line, hex_lines, heading, memory_heading, memory_row as row_of, row_line, memory_line, memory_lines, memory_part, cycles_line, part as part_text, accepted_line, wrote_line, accepted_text};
+ghost use Rattle.tinker_texts.specs.Report.{kind_name as name_of, end_text, hex, hex_digit as digit_of, hex_line, hex_lines, heading, memory_heading, memory_row as row_of, row_line, memory_line, memory_lines, memory_part, cycles_line, pages_line, part as part_text, accepted_line, wrote_line, accepted_text};
 
 use byteorder::{BigEndian, ByteOrder};
 use image_format::{Parts, Row};
@@ -209,6 +209,24 @@ pub fn push_cycles(text: &mut String, index: u8, cycles: u64) -> Result<(), Allo
     ensures { OnOk result (string_bytes text.new ≡ string_bytes text.old ++ cycles_line index cycles) }
 {
     writeln!(text, "cycles {index} {cycles}")
+}
+
+/// How often a page was loaded into a frame, rescheduled or restored for that, and evicted.
+#[tactic(auto, unfolding(crate::specs::Report::pages_line))]
+pub fn push_pages(
+    text: &mut String,
+    loaded: u64,
+    rescheduled: u64,
+    restored: u64,
+    evicted: u64,
+) -> Result<(), AllocError>
+    ensures { OnOk result (string_bytes text.new ≡ string_bytes text.old
+        ++ pages_line loaded rescheduled restored evicted) }
+{
+    writeln!(
+        text,
+        "pages loaded {loaded} rescheduled {rescheduled} restored {restored} evicted {evicted}"
+    )
 }
 
 /// How many words the rows have in all. 128 bits have room for the sum of any rows.

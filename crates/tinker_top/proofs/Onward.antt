@@ -7,6 +7,8 @@ use Rattle.tnk_base.specs.Host.{Files, Shown}
 use Rattle.image_format.specs.Image.{Image}
 use Rattle.image_check.specs.Units.{first_lacking}
 use Rattle.machine_desc.specs.Description.{Description}
+use Rattle.context_system.specs.Context.{Setup as Context}
+use Rattle.tinker_words.specs.Settings.{Settings}
 use Rattle.tinker_texts.specs.Refusals.{too_long_text}
 use Rattle.tinker_top.specs.declared.steps.Said.{Said}
 use Rattle.tinker_top.specs.declared.steps.Stop.{Stop}
@@ -14,7 +16,8 @@ use Rattle.tinker_top.specs.declared.steps.Stop.TheVariants.{Refused, Fault, Mem
 use Rattle.tinker_top.specs.Outcome.{Outcome, after, says, refused, fetched, fetching}
 use Rattle.tinker_top.specs.Command.{if_it_has_units}
 use Rattle.tinker_top.specs.Top.{asked_too}
-use Rattle.tinker_top.specs.Steps.{Leads, Begins, ComesTo, GivesTo, IsDecided, IsMoved, IsEnding, MayKeep}
+use Rattle.tinker_top.specs.Run.{run_of}
+use Rattle.tinker_top.specs.Steps.{Leads, Begins, ComesTo, GivesTo, IsDecided, IsMoved, IsRun, IsEnding, MayKeep}
 use Rattle.tinker_top.proofs.Calls.{asked_too-none, asked_too-append, after-after, first_behind}
 
 -- no call was made
@@ -120,3 +123,9 @@ moved_comes name out image g (Err Memory) old h = begins_with_none _ old old ref
 -- a command that keeps nothing ends with its text
 pub says_ending : (said : Said) (text : List ℕ) → said.kept ≡ None → said.text.items ≡ text → IsEnding said (says 0 text)
 says_ending said text none same = record { kept = None; keeps = subst (λ k. MayKeep k None) (sym none) tt; same = ap (says 0) (sym same) }
+
+-- contexts that ran were stopped without a call
+pub run_stops : (s : Settings) (contexts : List Context) (why : Stop) (old : Shown) → IsRun s contexts (Err why) → ComesTo (run_of s contexts) (Err why) old old
+run_stops s contexts (Refused line) old h = leads_to_same _ _ old old h refl
+run_stops s contexts Fault old h = absurd h
+run_stops s contexts Memory old h = begins_with_none _ old old refl

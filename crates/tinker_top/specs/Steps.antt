@@ -1,5 +1,6 @@
 -- How far a command has come. For contracts within the crate.
-use Rattle.std.specs.Prelude.{ℕ, ◌≡◌, List, take, Option, Some, None, Result, Ok, Err}
+use Rattle.std.specs.Prelude.{ℕ, ◌≡◌, ◌≤◌, Bool, List, [], take, Vec, Option, Some, None, Result, Ok, Err}
+use Rattle.std.specs.Global.{Global}
 use Rattle.std.specs.Option.{ForSome}
 use Rattle.tnk_base.specs.declared.host.Asked.{Asked}
 use Rattle.tnk_base.specs.Host.{Files, Shown, Stands, HasCause}
@@ -12,12 +13,20 @@ use Rattle.image_check.specs.Units.{first_lacking}
 use Rattle.image_check.specs.Rules.{first_broken}
 use Rattle.image_check.specs.declared.rules.CheckFault.{CheckFault}
 use Rattle.image_check.specs.declared.rules.CheckFault.TheVariants as check
+use Rattle.image_resched.specs.Laws.{Forms}
+use Rattle.context_system.specs.Context.{Setup as Context}
+use Rattle.contexts.specs.declared.Setup.{Setup as Given}
+use Rattle.contexts.specs.Core.{Seat}
+use Rattle.tinker_words.specs.declared.settings.Number.TheVariants.{Bound}
+use Rattle.tinker_words.specs.Settings.{Settings, number}
+use Rattle.tinker_texts.specs.Report.{part, cycles_line}
 use Rattle.tinker_texts.specs.Refusals.{refused_line, refusal_text}
 use Rattle.tinker_top.specs.declared.steps.Said.{Said}
 use Rattle.tinker_top.specs.declared.steps.Keeping.{Keeping}
 use Rattle.tinker_top.specs.declared.steps.Stop.{Stop}
 use Rattle.tinker_top.specs.declared.steps.Stop.TheVariants.{Refused, Fault, Memory}
 use Rattle.tinker_top.specs.Outcome.{Outcome, Kept, HasContent, ends, says, after}
+use Rattle.tinker_top.specs.Run.{run_of}
 use Rattle.tinker_top.specs.Command.{if_accepted, if_described, if_it_has_units}
 use Rattle.tinker_top.specs.Top.{asked_too}
 
@@ -101,3 +110,36 @@ IsMoved name out image g (Ok said) = IsEnding said (if_it_has_units name out ima
 IsMoved name out image g (Err (Refused line)) = if_it_has_units name out image g (first_lacking image g) ≡ says 1 line.items
 IsMoved name out image g (Err Fault) = ⊥
 IsMoved name out image g (Err Memory) = Unit {0}
+
+-- a context as it was fetched, where `forms` gives images in other generations
+abbrev pub as_given : Forms → Given → Context
+as_given forms x = record {
+  image = x.image;
+  generation = description_of x.chosen;
+  formed = forms x.image (description_of x.chosen);
+  input = x.input.items;
+  limit = x.limit;
+  bound = x.bound;
+}
+
+-- a context of a core that has ended, as its part of the report, and its cycles
+abbrev pub seat_part : (dump : Bool) → ℕ → Seat → List ℕ
+seat_part dump i seat = elim seat.end [
+  | None ↦ []
+  | Some e ↦ part i dump e seat.blocks seat.moment.state.output seat.moment.state.memory
+]
+
+abbrev pub seat_cycles : ℕ → Seat → List ℕ
+seat_cycles i seat = cycles_line i seat.moment.cycles
+
+-- a context as it was fetched has the bound of the settings, at least 1
+pub record HasBound (s : Settings) (x : Given) : Type 0 where
+  pub same : x.bound ≡ number s Bound
+  pub some : 1 ≤ x.bound
+
+-- the contexts' report is this text, or they are refused
+abbrev pub IsRun : Settings → List Context → Result (Vec ℕ Global) Stop → Type 0
+IsRun s contexts (Ok text) = run_of s contexts ≡ says 0 text.items
+IsRun s contexts (Err (Refused line)) = run_of s contexts ≡ says 1 line.items
+IsRun s contexts (Err Fault) = ⊥
+IsRun s contexts (Err Memory) = Unit {0}

@@ -1,6 +1,5 @@
 // The command that moves an image to another generation: `resched`.
 ghost use Rattle.std.specs.Prelude.{◌≡◌};
-ghost use Rattle.machine_desc.specs.BuiltIn.{chosen};
 ghost use Rattle.machine_desc.specs.Value.{description_of};
 ghost use Rattle.machine_desc.specs.File.{read_description};
 ghost use Rattle.tinker_words.specs.Forms.{aimed_at};
@@ -11,8 +10,8 @@ ghost use Rattle.tinker_top.specs.Steps.{Reads, HasCome, HasGiven, IsDescribed, 
 use super::commands::image;
 use super::steps::{Keeping, Said, Stop, fetch};
 use image_check::{Accepted, has_units};
-use image_resched::reschedule;
-use machine_desc::{Chosen, Mdes, MdesFault, T1, T2, T3};
+use image_resched::{described as value, reschedule};
+use machine_desc::{Mdes, MdesFault, T1, T2, T3};
 use std::alloc::Global;
 use tinker_texts::{no_unit, undescribed, wrote};
 use tinker_words::Target;
@@ -46,25 +45,22 @@ fn described<H: Host>(alloc: Global, host: &mut H, name: &str) -> Result<Mdes, S
 }
 
 /// The generation for which a command works; `own` is the image's description.
-fn generation<H: Host>(
+pub fn generation<H: Host>(
     alloc: Global,
     host: &mut H,
     target: Target<'_>,
     own: Mdes,
-) -> Result<Chosen, Stop>
-    ensures given { HasGiven chosen (with_target (aimed_at target.entry) (description_of own)) result
+) -> Result<Mdes, Stop>
+    ensures given { HasGiven description_of (with_target (aimed_at target.entry) (description_of own)) result
         (H.shows host.old) (H.shows host.new) }
     ensures reads { Reads (H.shows host.old) (H.shows host.new) (result ≡ Err Stop.Fault) }
 {
     match target {
-        Target::Own => Ok(Chosen::Given(own)),
-        Target::T1 => Ok(Chosen::T1(T1)),
-        Target::T2 => Ok(Chosen::T2(T2)),
-        Target::T3 => Ok(Chosen::T3(T3)),
-        Target::File(name) => match described(alloc, host, name) {
-            Ok(mdes) => Ok(Chosen::Given(mdes)),
-            Err(stop) => Err(stop),
-        },
+        Target::Own => Ok(own),
+        Target::T1 => Ok(value(&T1)),
+        Target::T2 => Ok(value(&T2)),
+        Target::T3 => Ok(value(&T3)),
+        Target::File(name) => described(alloc, host, name),
     }
 }
 
@@ -73,10 +69,10 @@ fn moved<'a>(
     alloc: Global,
     name: &str,
     image: &Accepted,
-    g: &Chosen,
+    g: &Mdes,
     out: &'a str,
 ) -> Result<Said<'a>, Stop>
-    ensures { IsMoved name.now out.now image.now (chosen g.now) result }
+    ensures { IsMoved name.now out.now image.now (description_of g.now) result }
 {
     if let Some(kind) = has_units(image, g) {
         return Err(Stop::Refused(no_unit(alloc, name, kind)?));

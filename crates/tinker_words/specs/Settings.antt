@@ -2,19 +2,22 @@
 use Rattle.std.specs.Prelude.{ℕ, Bool, true, false, not, ◌&&◌, ◌||◌, nat_le, List, [], ◌∷◌, length, take, drop, codes, bytes_eq, Option, Some, None, option_map, find, if◌then◌else◌}
 use Rattle.tnk_text.specs.Digits.{decimal_in}
 use Rattle.tinker_words.specs.declared.settings.Number.{Number}
-use Rattle.tinker_words.specs.declared.settings.Number.TheVariants.{Bound, Limit}
+use Rattle.tinker_words.specs.declared.settings.Number.TheVariants.{Frames, Saved, Bound, Limit}
 use Rattle.tinker_words.specs.declared.settings.Kind.{Kind}
 use Rattle.tinker_words.specs.declared.settings.Kind.TheVariants.{Counted, Dump}
 
--- what was given: the most blocks that a program may run, the most bytes that it may put out, and that the memory is shown
+-- what was given: how many frames there are for pages, how many evicted pages may be saved, the most blocks that a program
+-- may run, the most bytes that it may put out, and that the memory is shown
 pub record Settings : Type 0 where
+  pub frames : Option ℕ
+  pub saved : Option ℕ
   pub bound : Option ℕ
   pub limit : Option ℕ
   pub dump : Bool
 
 -- nothing is given
 abbrev pub unset : Settings
-unset = record { bound = None; limit = None; dump = false }
+unset = record { frames = None; saved = None; bound = None; limit = None; dump = false }
 
 -- a row of the table of numbers: the name, the least and the greatest value, and the value where none is given
 pub record Row : Type 0 where
@@ -25,6 +28,8 @@ pub record Row : Type 0 where
 
 -- the table
 abbrev pub row : Number → Row
+row Frames = record { name = codes "frames="; least = 1; most = 1024; usual = 16 }
+row Saved = record { name = codes "saved="; least = 0; most = 1024; usual = 16 }
 row Bound = record { name = codes "bound="; least = 1; most = 1000000; usual = 100000 }
 row Limit = record { name = codes "limit="; least = 1; most = 1048576; usual = 65536 }
 
@@ -43,6 +48,8 @@ setting_in kinds word = find (λ k. begins (name_of k) word) kinds
 
 -- the number that was given
 abbrev pub given : Settings → Number → Option ℕ
+given s Frames = s.frames
+given s Saved = s.saved
 given s Bound = s.bound
 given s Limit = s.limit
 
@@ -56,6 +63,8 @@ number s n = given_or (row n).usual (given s n)
 
 -- the settings with a number
 abbrev pub with_number : Settings → Number → ℕ → Settings
+with_number s Frames v = record s { frames = Some v }
+with_number s Saved v = record s { saved = Some v }
 with_number s Bound v = record s { bound = Some v }
 with_number s Limit v = record s { limit = Some v }
 

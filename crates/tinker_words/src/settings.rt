@@ -2,7 +2,7 @@
 ghost use Rattle.std.specs.Prelude.{◌≡◌, ◌≤◌, IfSome, drop, map, string_bytes, option_map};
 ghost use Rattle.tnk_text.specs.Digits.{decimal_in};
 ghost use Rattle.tinker_words.specs.Settings.{unset, row as row_of, name_of, begins as begins_with, setting_in, number as number_of, given, with_number as numbered, first_number as first_of, with_counted as counted, with_dump as dumped, with_setting as with_value, settings as settings_of};
-ghost use Rattle.tinker_words.specs.Rows.{shown_row};
+ghost use Rattle.tinker_words.specs.Rows.{shown_row, IsInRange};
 
 use std::marker::Model;
 use tnk_text::decimal;
@@ -10,6 +10,10 @@ use tnk_text::decimal;
 /// A setting that is a number.
 #[derive(Clone, Copy, Debug)]
 pub enum Number {
+    /// How many frames there are for pages.
+    Frames,
+    /// How many evicted pages may be saved.
+    Saved,
     /// The most blocks that a program may run.
     Bound,
     /// The most bytes that a program may put out.
@@ -38,6 +42,18 @@ impl Number {
         ensures { shown_row result ≡ row_of self }
     {
         match self {
+            Number::Frames => Row {
+                name: b"frames=",
+                least: 1,
+                most: 1_024,
+                usual: 16,
+            },
+            Number::Saved => Row {
+                name: b"saved=",
+                least: 0,
+                most: 1_024,
+                usual: 16,
+            },
             Number::Bound => Row {
                 name: b"bound=",
                 least: 1,
@@ -69,6 +85,8 @@ impl Kind {
 /// The settings that were given.
 #[derive(Clone, Copy, Debug)]
 pub struct Settings {
+    frames: Option<u32>,
+    saved: Option<u32>,
     bound: Option<u32>,
     limit: Option<u32>,
     dump: bool,
@@ -83,7 +101,7 @@ impl Model for Settings {
 
     ghost view = { given_settings };
 
-    ghost inverse = { λ s. record { bound = s.bound; limit = s.limit; dump = s.dump } };
+    ghost inverse = { λ s. record { frames = s.frames; saved = s.saved; bound = s.bound; limit = s.limit; dump = s.dump } };
 
     ghost invariant = { AreWithin };
 }
@@ -112,7 +130,7 @@ fn setting(kinds: &[Kind], word: &[u8]) -> Option<Kind>
 /// A number that is in its range, and wasn't given before.
 fn first_number(row: &Row, before: Option<u32>, value: Option<u64>) -> Option<u32>
     ensures value { result ≡ first_of (shown_row row.now) before value }
-    ensures most { IfSome result (λ n. n ≤ row.now.most) }
+    ensures range { IfSome result (IsInRange (shown_row row.now)) }
 {
     match (before, value) {
         (None, Some(n)) if u64::from(row.least) <= n && n <= u64::from(row.most) => Some(n as u32),
@@ -126,6 +144,8 @@ impl Settings {
         ensures { result ≡ unset }
     {
         Settings {
+            frames: None,
+            saved: None,
             bound: None,
             limit: None,
             dump: false,
@@ -134,9 +154,11 @@ impl Settings {
 
     fn given(&self, number: Number) -> Option<u32>
         ensures value { result ≡ given self.now number }
-        ensures most { IfSome result (λ v. v ≤ (row_of number).most) }
+        ensures range { IfSome result (IsInRange (row_of number)) }
     {
         match number {
+            Number::Frames => self.frames,
+            Number::Saved => self.saved,
             Number::Bound => self.bound,
             Number::Limit => self.limit,
         }
@@ -145,6 +167,7 @@ impl Settings {
     /// A number, where it is given or else its usual value.
     pub fn number(&self, number: Number) -> u32
         ensures value { result ≡ number_of self.now number }
+        ensures least { (row_of number).least ≤ result }
         ensures most { result ≤ (row_of number).most }
     {
         self.given(number).unwrap_or(number.row().usual)
@@ -164,6 +187,14 @@ impl Settings {
         let row = number.row();
         let count = first_number(&row, self.given(number), decimal(value))?;
         Some(match number {
+            Number::Frames => Settings {
+                frames: Some(count),
+                ..self
+            },
+            Number::Saved => Settings {
+                saved: Some(count),
+                ..self
+            },
             Number::Bound => Settings {
                 bound: Some(count),
                 ..self

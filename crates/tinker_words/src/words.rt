@@ -2,13 +2,13 @@
 ghost use Rattle.std.specs.Prelude.{◌≡◌, Option, map, string_bytes, option_map};
 ghost use Rattle.std.specs.List.{list_any};
 ghost use Rattle.tinker_words.specs.Settings.{begins as begins_with};
-ghost use Rattle.tinker_words.specs.Forms.{asked_for, aimed_at};
-ghost use Rattle.tinker_words.specs.Words.{is_name as names_file, setting_names, is_image_name as names_image, input_named, check_words as check_in, meaning_words as meaning_in, is_run as is_run_of, run_form, run_words as run_in, target_named, resched_words, behind_settings, alone, Help, Version, command_of};
+ghost use Rattle.tinker_words.specs.Forms.{asked_for, aimed_at, named};
+ghost use Rattle.tinker_words.specs.Words.{is_name as names_file, setting_names, is_image_name as names_image, input_named, check_words as check_in, meaning_kinds, run_kinds, meaning_words as meaning_in, context_named, run_words as run_in, target_named, resched_words, behind_settings, alone, Help, Version, command_of};
 
 use super::settings::{Kind, Number, Settings, begins};
 use std::marker::Model;
 
-/// A program to be run: its image, the file of its input, if it has one, and the settings.
+/// A program whose meaning is asked for: its image, the file of its input, if it has one, and the settings.
 #[derive(Debug, Drop)]
 pub struct Setup<'a> {
     pub image: &'a str,
@@ -37,6 +37,14 @@ pub enum Target<'a> {
     File(&'a str),
 }
 
+/// A context by what names it: its image, the generation as which it runs, and the file of its input, if it has one.
+#[derive(Clone, Copy, Debug)]
+pub struct NamedContext<'a> {
+    pub image: &'a str,
+    pub target: Target<'a>,
+    pub input: Option<&'a str>,
+}
+
 /// The forms that words may have.
 #[derive(Debug, Drop)]
 pub enum Form<'a> {
@@ -44,7 +52,8 @@ pub enum Form<'a> {
     Version,
     Check(&'a str),
     Meaning(Setup<'a>),
-    Run(Setup<'a>),
+    /// The settings and the one context.
+    Run(Settings, NamedContext<'a>),
     /// An image, the generation for which it is rescheduled, and the file of the image for that.
     Resched(&'a str, Target<'a>, &'a str),
 }
@@ -65,8 +74,17 @@ impl<'a> Model for Command<'a> {
     ghost view = { λ c. asked_for c.form };
 }
 
-/// The settings of `meaning` and `run`.
-const RUN_KINDS: [Kind; 3] = [
+/// The settings of `meaning`.
+const MEANING_KINDS: [Kind; 3] = [
+    Kind::Counted(Number::Bound),
+    Kind::Counted(Number::Limit),
+    Kind::Dump,
+];
+
+/// The settings of `run`: two more.
+const RUN_KINDS: [Kind; 5] = [
+    Kind::Counted(Number::Frames),
+    Kind::Counted(Number::Saved),
     Kind::Counted(Number::Bound),
     Kind::Counted(Number::Limit),
     Kind::Dump,
@@ -141,47 +159,6 @@ fn meaning_words(settings: Settings, words: &[String]) -> Option<Form<'_>>
     }
 }
 
-/// Whether these can be the words of `run` behind its settings.
-fn is_run(image: &str, generation: &str, input: &str) -> bool
-    ensures { result ≡ is_run_of image.now generation.now input.now }
-{
-    is_image_name(image) && generation == "own" && is_name(input)
-}
-
-/// What these words of `run` behind its settings ask for.
-fn run_command<'a>(
-    settings: Settings,
-    image: &'a str,
-    generation: &str,
-    file: &'a str,
-) -> Option<Form<'a>>
-    ensures { option_map asked_for result ≡ run_form settings image.now generation.now file.now }
-{
-    if !is_run(image, generation, file) {
-        return None;
-    }
-    Some(Form::Run(Setup {
-        image,
-        input: input(file),
-        settings,
-    }))
-}
-
-#[tactic(auto, using(crate::proofs::Forms::other))]
-fn run_words(settings: Settings, words: &[String]) -> Option<Form<'_>>
-    ensures { option_map asked_for result ≡ run_in settings (map string_bytes words.now) }
-{
-    if words.len() != 3 {
-        return None;
-    }
-    run_command(
-        settings,
-        words[0].as_str(),
-        words[1].as_str(),
-        words[2].as_str(),
-    )
-}
-
 /// The generation that a word names.
 fn named_target(word: &str) -> Target<'_>
     ensures { aimed_at result ≡ target_named word.now }
@@ -192,6 +169,32 @@ fn named_target(word: &str) -> Target<'_>
         "t2" => Target::T2,
         "t3" => Target::T3,
         _ => Target::File(word),
+    }
+}
+
+/// The context that three words name.
+fn named_context<'a>(image: &'a str, generation: &'a str, file: &'a str) -> Option<NamedContext<'a>>
+    ensures { option_map named result ≡ context_named image.now generation.now file.now }
+{
+    if !is_image_name(image) || !is_name(generation) || !is_name(file) {
+        return None;
+    }
+    Some(NamedContext {
+        image,
+        target: named_target(generation),
+        input: input(file),
+    })
+}
+
+fn run_words(settings: Settings, words: &[String]) -> Option<Form<'_>>
+    ensures { option_map asked_for result ≡ run_in settings (map string_bytes words.now) }
+{
+    match words {
+        [image, generation, file] => {
+            let context = named_context(image.as_str(), generation.as_str(), file.as_str())?;
+            Some(Form::Run(settings, context))
+        }
+        _ => None,
     }
 }
 
@@ -212,16 +215,16 @@ fn resched(words: &[String]) -> Option<Form<'_>>
 }
 
 fn meaning(words: &[String]) -> Option<Form<'_>>
-    ensures { option_map asked_for result ≡ behind_settings meaning_in (map string_bytes words.now) }
+    ensures { option_map asked_for result ≡ behind_settings meaning_kinds meaning_in (map string_bytes words.now) }
 {
-    match Settings::none().and_then(&RUN_KINDS, words) {
+    match Settings::none().and_then(&MEANING_KINDS, words) {
         Some((settings, others)) => meaning_words(settings, others),
         None => None,
     }
 }
 
 fn run(words: &[String]) -> Option<Form<'_>>
-    ensures { option_map asked_for result ≡ behind_settings run_in (map string_bytes words.now) }
+    ensures { option_map asked_for result ≡ behind_settings run_kinds run_in (map string_bytes words.now) }
 {
     match Settings::none().and_then(&RUN_KINDS, words) {
         Some((settings, others)) => run_words(settings, others),

@@ -1,6 +1,6 @@
 -- The image's file is kept, and its line put out.
 use Rattle.std.proofs.Common.{ap, sym, length, ◌∙◌, ◌≡◌, Some, refl, rules}
-use Rattle.machine_desc.specs.BuiltIn.{chosen}
+use Rattle.machine_desc.specs.Value.{description_of}
 use Rattle.tinker_texts.specs.Report.{wrote_line}
 use Rattle.tinker_top.specs.Outcome.{Kept, Rescheduled, ends}
 use Rattle.tinker_top.specs.Command.{if_it_has_units}
@@ -10,7 +10,7 @@ use Rattle.tinker_top.proofs.moving.moved.Goals as goal
 pub returns : goal.returns
 returns c =
     let image = c.args.image.now in
-    let g = chosen c.args.g.now in
+    let g = description_of c.args.g.now in
     let out = c.args.out.now in
     let k : Kept = record { name = out; content = Rescheduled image g } in
     let many : c.len.result ≡ length c.in_ok-bytes.bytes.items = search rules in

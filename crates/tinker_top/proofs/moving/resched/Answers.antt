@@ -1,8 +1,7 @@
 -- The image, the generation, and the image in it.
 use Rattle.std.proofs.Common.{subst, sym, ap, ◌∙◌, ◌≡◌, Ok, Err, List, ℕ}
-use Rattle.machine_desc.specs.declared.built_in.Chosen.{Chosen}
+use Rattle.machine_desc.specs.declared.Mdes.{Mdes}
 use Rattle.machine_desc.specs.Description.{Description}
-use Rattle.machine_desc.specs.BuiltIn.{chosen}
 use Rattle.machine_desc.specs.Value.{description_of}
 use Rattle.image_format.specs.Image.{Image}
 use Rattle.image_check.specs.Units.{first_lacking}
@@ -46,8 +45,8 @@ returns-in_err-g-clause-come g c = λ files told.
     let own : description_of c.parts.result.now.description ≡ image.description = ap (λ (i : Image). i.description) c.parts.ensures.image in
     subst (λ r. ComesTo (resched_command name target out files) r old new) (sym (passed_on c.from_residual-in_err-g.result why c.from_residual-in_err-g.ensures))
     (comes_on {V = Image} {X = Image} (λ image. image) (with_image files name) (rest name out target files) image old mid new (Err why) (c.in_ok-image.ensures.given files told)
-    (stops {V = Chosen} {X = Description} chosen (with_target target image.description files) (last name out image) why mid new
-    (subst (λ d. GivesTo {V = Chosen} {X = Description} chosen (with_target target d files) (Err why) mid new) own
+    (stops {V = Mdes} {X = Description} description_of (with_target target image.description files) (last name out image) why mid new
+    (subst (λ d. GivesTo {V = Mdes} {X = Description} description_of (with_target target d files) (Err why) mid new) own
     (c.in_err-g.ensures.given files (c.in_ok-image.ensures.reads.stands.files ∙ told)))))
 
 pub returns-clause-come : goal.returns-clause-come
@@ -61,7 +60,7 @@ returns-clause-come g c = λ files told.
     let image = c.in_ok-image.image in
     let own : description_of c.parts.result.now.description ≡ image.description = ap (λ (i : Image). i.description) c.parts.ensures.image in
     comes_on {V = Image} {X = Image} (λ image. image) (with_image files name) (rest name out target files) image old mid new c.moved.result (c.in_ok-image.ensures.given files told)
-    (comes_on {V = Chosen} {X = Description} chosen (with_target target image.description files) (last name out image) c.in_ok-g.g mid new new c.moved.result
-    (subst (λ d. GivesTo {V = Chosen} {X = Description} chosen (with_target target d files) (Ok c.in_ok-g.g) mid new) own
+    (comes_on {V = Mdes} {X = Description} description_of (with_target target image.description files) (last name out image) c.in_ok-g.g mid new new c.moved.result
+    (subst (λ d. GivesTo {V = Mdes} {X = Description} description_of (with_target target d files) (Ok c.in_ok-g.g) mid new) own
     (c.in_ok-g.ensures.given files (c.in_ok-image.ensures.reads.stands.files ∙ told)))
-    (moved_comes name out image (chosen c.in_ok-g.g) c.moved.result new c.moved.ensures))
+    (moved_comes name out image (description_of c.in_ok-g.g) c.moved.result new c.moved.ensures))
