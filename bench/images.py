@@ -68,6 +68,30 @@ def loop():
     return image(1, [(0, block)], memory=1_048_576)
 
 
+def ring():
+    """256 pages of a block of five operations each, which goes to that of the next page; the last goes to the first."""
+    blocks = []
+    for n in range(256):
+        block = [addi(1, 0, 4 * n), ldw(2, 1, 0), stw(2, 1, 4), pbr(1, 512 * (n + 1) % (512 * 256)), bru(1)]
+        blocks.append((512 * n, block))
+    return image(256, blocks, memory=1_048_576)
+
+
+def long():
+    """A block of 512 operations that goes to itself: sums, products, loads and stores, one in each MultiOp."""
+    make = [lambda k: add(1 + k % 16, 17 + k % 8, 1 + k % 5), lambda k: mul(2 + k % 16, 18 + k % 8, 1 + k % 7),
+            lambda k: ldw(3 + k % 16, 0, 4 * k), lambda k: stw(4 + k % 16, 0, 4 * k)]
+    return image(1, [(0, [make[k % 4](k) for k in range(510)] + [pbr(1, 0), bru(1)])], memory=1_048_576)
+
+
+def both():
+    """Two pages that go to each other, each with a block of 500 operations beside the short one that runs."""
+    draw = random.Random(2)
+    rest = [add(draw.randrange(1, 32), draw.randrange(1, 32), draw.randrange(1, 32)) for _ in range(499)] + [halt(0)]
+    short = lambda to: [pbr(1, to), bru(1)]
+    return image(2, [(0, short(512)), (2, rest), (512, short(0)), (514, rest)])
+
+
 def single_words(description=WIDE):
     """As many blocks as there can be, of one operation each, and as many bytes as an image can have."""
     return image(256, [(k, [halt(0)]) for k in range(131_072)], 1_048_576, bytes(1_048_576), description)
@@ -99,6 +123,9 @@ def dense(count):
 def main():
     images = {
         "loop": loop,
+        "ring": ring,
+        "long": long,
+        "both": both,
         "single_words": single_words,
         "single_words_2": lambda: single_words(BUSY),
         "full_pages": full_pages,

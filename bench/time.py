@@ -1,10 +1,11 @@
 """Times the built program: `python3 bench/time.py [PROGRAM]`, after `rt ci` or `rt run` has built it. It wants `rustc`.
 
 The first lines tell the command, the seconds of the quickest of five runs, and the most memory that it took (peak.rs) as a
-multiple of its file. The last lines compare `check` and `resched` with plain.rs, plain Rust that does the search for orders
+multiple of its file. The next lines compare `check` and `resched` with plain.rs, plain Rust that does the search for orders
 and the schedules alone, and by all pairs of a block's operations, over images of 256 pages of blocks of so many operations:
 the nanoseconds for each operation, of the program and of plain.rs by turns, and how many times plain.rs's they are. Both
-write the same file.
+write the same file. The last lines compare `run` with run.rs, a machine in plain Rust, on the generation of the image, and tell
+what it costs to load a page that is in no frame: to copy it, to reschedule it, and to restore it.
 """
 
 import os
@@ -60,6 +61,25 @@ def compare(program, plain, folder):
         print(count, *row)
 
 
+def beyond_one(program, folder, words, blocks, make):
+    """The seconds of a run of so many blocks, less those of a run of one."""
+    return seconds(program, folder, make(words, blocks)) - seconds(program, folder, make(words, 1))
+
+
+def play(program, machine, folder):
+    """`run` beside run.rs on the generation of the image, and what it costs to load a page in another one."""
+    ours = lambda words, blocks: ["run", f"bound={blocks}", *words]
+    theirs = lambda words, blocks: [words[-3], str(blocks)]
+    print("millions of MultiOps a second of run, of run.rs, and how many times the time of run.rs")
+    for words, blocks, multi_ops in [(["loop", "own", "-"], 200_000, 5), (["frames=256", "ring", "own", "-"], 1_000_000, 5), (["long", "own", "-"], 40_000, 512)]:
+        times = [beyond_one(program, folder, words, blocks, ours), beyond_one(machine, folder, words, blocks, theirs)]
+        speeds = [blocks * multi_ops / spent / 1e6 for spent in times]
+        print(" ".join(words), f"{speeds[0]:.1f}, {speeds[1]:.1f}, {times[0] / times[1]:.2f}")
+    print("microseconds for each page that is loaded, in one frame")
+    for words in (["frames=1", "saved=0", "both", "own", "-"], ["frames=1", "saved=0", "both", "t2", "-"], ["frames=1", "saved=2", "both", "t2", "-"]):
+        print(" ".join(words), f"{beyond_one(program, folder, words, 20_000, ours) / 20_000 * 1e6:.1f}")
+
+
 def main():
     if shutil.which("rustc") is None:
         sys.exit("no rustc: plain.rs and peak.rs can't be compiled")
@@ -67,13 +87,14 @@ def main():
     program = os.path.abspath(sys.argv[1] if len(sys.argv) > 1 else os.path.join(here, "../crates/tinker/out/tinker"))
     with tempfile.TemporaryDirectory() as folder:
         subprocess.run([sys.executable, os.path.join(here, "images.py"), folder], check=True)
-        plain, peak = compiled(here, folder, "plain"), compiled(here, folder, "peak")
+        plain, machine, peak = (compiled(here, folder, name) for name in ("plain", "run", "peak"))
         for name in ["single_words", "single_words_2", "full_pages", "full_pages_2", "dense"]:
             measure(program, peak, folder, ["check", name])
         measure(program, peak, folder, ["resched", "dense", "t2", "out"])
         measure(program, peak, folder, ["meaning", "loop", "-"])
         measure(program, peak, folder, ["run", "loop", "own", "-"])
         compare(program, plain, folder)
+        play(program, machine, folder)
 
 
 main()
