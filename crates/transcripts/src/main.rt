@@ -1,27 +1,17 @@
 // Plays transcripts: text files that read as a terminal does, each over a host in memory that begins without files. What
-// differs from them is told on standard output. It is equipment for tests, and stands on `tinker_top` and `tnk_base`;
-// data/README.md has the notation.
+// differs from them is told on standard output. It is equipment for tests, and stands on `tinker_top`, `tnk_base` and
+// `transcript_notation`, which reads them; data/README.md has the notation.
 //
-// Here the transcripts are fetched and what was found is printed. `transcript` reads lines into commands, `words` what stands in
-// a line, and `content` what a file is made of; `player` plays them over the files and hosts of `files`; `compare`, `trouble` and
-// `report` tell what is wrong.
+// Here the transcripts are fetched and what was found is printed; `player` plays them.
 #![tactic(auto)]
 
-mod chains;
-mod compare;
-mod content;
-mod files;
 mod player;
-mod report;
-mod transcript;
-mod trouble;
-mod words;
 
 use player::play;
-use report::Report;
 use std::process::ExitCode;
 use std::rt::{Env, Files};
 use std::{env, fs, io};
+use transcript_notation::Report;
 
 fn main(rt: HostRuntime) -> ExitCode {
     match play_all(&rt) {

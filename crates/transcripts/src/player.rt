@@ -1,15 +1,11 @@
 // Plays the commands of a transcript over its files.
-use super::chains::Chains;
-use super::compare::{compare_file, compare_run};
-use super::content::Content;
-use super::files::{Files, Part};
-use super::report::Report;
-use super::transcript::{Block, Verb};
-use super::trouble::Trouble;
-use super::words::{number, owned, range, split_name, split_word};
 use std::alloc::{AllocError, Global};
 use tinker_top::tinker;
 use tnk_base::MemoryHost;
+use transcript_notation::{
+    Block, Chains, Content, Files, Part, Prefixes, Report, Trouble, Verb, compare_file,
+    compare_run, number, owned, split_name, split_word,
+};
 
 /// Plays the whole transcript, and tells what is wrong with it.
 pub fn play(alloc: Global, text: &str, report: &mut Report) -> Result<(), AllocError> {
@@ -22,32 +18,6 @@ fn play_lines(alloc: Global, lines: &[&str], report: &mut Report) -> Result<(), 
     let played = player.play_all(lines, report);
     report.runs = report.runs.saturating_add(player.runs);
     played
-}
-
-/// First parts of a file, each of which is to be the file of a name.
-#[derive(Clone, Copy)]
-struct Prefixes<'a> {
-    name: &'a str,
-    file: &'a str,
-    /// The shortest part's length.
-    from: usize,
-    /// One more than the longest part's length.
-    to: usize,
-}
-
-impl<'a> Prefixes<'a> {
-    /// NAME FILE FROM..TO, of which the first number is below the second.
-    fn read(text: &'a str) -> Option<Self> {
-        let (name, others) = text.split_once(' ')?;
-        let (file, ends) = others.split_once(' ')?;
-        let (from, to) = range(ends)?;
-        Some(Prefixes {
-            name,
-            file,
-            from,
-            to,
-        })
-    }
 }
 
 /// A run of `tinker`: its words, and the lines behind it.
@@ -246,12 +216,16 @@ impl<'a> Player<'a> {
 
     /// Reschedules an image for a generation, which is to be done with the status 0.
     fn resched(&mut self, image: &str, generation: &str, out: &str) -> Result<(), Trouble> {
-        let text = format!(in self.alloc; "resched {image} {generation} {out}")?;
-        let words = owned(self.alloc, text.as_str())?;
+        let mut text = String::new(self.alloc);
+        write!(text, "resched {image} {generation} {out}")?;
+        self.succeed(&text)
+    }
+
+    /// Makes a run of the words in a text, which is to end with the status 0.
+    fn succeed(&mut self, text: &str) -> Result<(), Trouble> {
+        let words = owned(self.alloc, text)?;
         let mut host = self.files.host(&words, &[])?;
-        let status = tinker(self.alloc, &mut host, &words);
-        self.runs = self.runs.saturating_add(1);
-        self.files.take_kept(&host)?;
+        let status = self.call(&mut host, &words)?;
         if status != 0 {
             writeln!(self.differs, "{text}: status {status}")?;
             return Err(Trouble::Differs);
@@ -279,9 +253,15 @@ impl<'a> Player<'a> {
     }
 
     fn run_on(&mut self, mut host: MemoryHost, run: &Run) -> Result<(), Trouble> {
-        let status = tinker(self.alloc, &mut host, run.words);
-        self.runs = self.runs.saturating_add(1);
-        self.files.take_kept(&host)?;
+        let status = self.call(&mut host, run.words)?;
         compare_run(&mut self.differs, run.lines, status, &host)
+    }
+
+    /// Makes a run of these words, takes back what the host kept, and answers the status.
+    fn call(&mut self, host: &mut MemoryHost, words: &[String]) -> Result<u8, Trouble> {
+        let status = tinker(self.alloc, host, words);
+        self.runs = self.runs.saturating_add(1);
+        self.files.take_kept(host)?;
+        Ok(status)
     }
 }
