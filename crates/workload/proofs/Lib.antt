@@ -1,0 +1,12 @@
+pub mod Stepping
+pub mod Choices
+pub mod Readings
+pub mod SerialTimes
+pub mod SerialRules
+pub mod Gaps
+pub mod Pushing
+pub mod Placing
+pub mod Standing
+pub mod InnerWords
+pub mod Accepted
+pub mod Adding
