@@ -1,4 +1,5 @@
 pub mod Context
+pub mod Needs
 pub mod System
 pub mod Turns
 pub mod Meant

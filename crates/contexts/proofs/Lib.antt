@@ -9,4 +9,8 @@ pub mod Playing
 pub mod Turns
 pub mod Paged
 pub mod Rounds
+pub mod Keys
+pub mod Again
+pub mod Numbered
+pub mod Lacking
 pub mod Opened

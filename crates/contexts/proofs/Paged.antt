@@ -19,11 +19,11 @@ use Rattle.contexts.proofs.Turned.{Turned}
 
 -- ---- keys
 
-some_and : {T : Type 0} (o : Option T) (P : T → Type 0) → IsSomeAnd o P → (x : T) × (o ≡ Some x) × P x
+pub some_and : {T : Type 0} (o : Option T) (P : T → Type 0) → IsSomeAnd o P → (x : T) × (o ≡ Some x) × P x
 some_and None P h = elim h [ ]
 some_and (Some x) P h = (x, refl, h)
 
-from_some : {T : Type 0} (o : Option T) (P : T → Type 0) (x : T) → o ≡ Some x → P x → IsSomeAnd o P
+pub from_some : {T : Type 0} (o : Option T) (P : T → Type 0) (x : T) → o ≡ Some x → P x → IsSomeAnd o P
 from_some o P x e h = subst (λ (p : Option _). IsSomeAnd p P) (sym e) h
 
 pub is_there : (core : Contexts) (k : Key) → IsKeyOf core k → IsThere core.loading.programs k

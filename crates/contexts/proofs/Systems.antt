@@ -103,7 +103,7 @@ first_there p (z ∷ xs) c x h e = go (λ c h. first_there p xs c x h e) (p z) r
     go ih false f (suc c) h = on (ih c h)
 
 -- contexts that share a program have one image and one generation
-shared_image : ReadsBack → (s r : Setup) → IsMovable s.image s.generation → IsMovable r.image r.generation → share_program s r ≡ true →
+pub shared_image : ReadsBack → (s r : Setup) → IsMovable s.image s.generation → IsMovable r.image r.generation → share_program s r ≡ true →
     (s.image ≡ r.image) × (s.generation ≡ r.generation)
 shared_image reads s r a b h =
     let parts = and_parts (bytes_eq (bytes_of s.image) (bytes_of r.image)) (are_same s.generation r.generation) h in

@@ -1,12 +1,10 @@
 -- A core of contexts, and the system that it holds.
-use Rattle.std.specs.Prelude.{ℕ, suc, ◌≡◌, ◌<◌, List, [], ◌∷◌, length, Option, Some, None, slice_get, IsSomeAnd}
+use Rattle.std.specs.Prelude.{ℕ, ◌≡◌, ◌<◌, List, length, map, Option, Some, slice_get, IsSomeAnd}
 use Rattle.std.specs.List.{AllZip}
 use Rattle.tnk_base.specs.declared.Key.{Key}
 use Rattle.operation.specs.declared.End.{End}
-use Rattle.operation.specs.declared.UnitKind.{UnitKind}
 use Rattle.machine_desc.specs.Value.{description_of}
 use Rattle.image_format.specs.Image.{page_count}
-use Rattle.image_check.specs.Units.{first_lacking}
 use Rattle.image_resched.specs.Rescheduled.{IsRescheduled}
 use Rattle.block_steps.specs.Steps.{Moment}
 use Rattle.page_fault.specs.declared.Loaded.{Loaded}
@@ -14,6 +12,7 @@ use Rattle.page_fault.specs.Loading.{Loading, paging_of}
 use Rattle.context_system.specs.declared.Event.{Event}
 use Rattle.context_system.specs.declared.Event.TheVariants.{Turn, Evict, Drop, Prefetch}
 use Rattle.context_system.specs.Context as system
+use Rattle.context_system.specs.Needs.{Run, first_without}
 use Rattle.context_system.specs.System.{System, program_number}
 use Rattle.contexts.specs.declared.Setup.{Setup}
 use Rattle.contexts.specs.declared.cores.OpenFault.{OpenFault}
@@ -84,15 +83,21 @@ pub record IsSetup (given : Setup) (s : system.Setup) : Type 0 where
 abbrev pub AreSetups : List Setup → List system.Setup → Type 0
 AreSetups given setups = AllZip IsSetup given setups
 
--- the first of the setups from the number c on whose image uses a unit kind that its generation lacks, with the first such kind
-abbrev pub first_without : ℕ → List Setup → Option (ℕ × UnitKind)
-first_without c [] = None
-first_without c (s ∷ ss) = elim (first_lacking s.image (description_of s.chosen)) [
-  | Some kind ↦ Some (c, kind)
-  | None ↦ first_without (suc c) ss
-]
+-- a core runs the images of some setups, one context each
+pub record Runs (given : List Setup) (core : Contexts) : Type 0 where
+  pub contexts : length core.seats ≡ length given
+  pub images : map (λ (p : Loaded). p.image) core.loading.programs ≡ map (λ (s : Setup). s.image) given
+
+-- it has as many contexts as before, and their programs
+pub record RunsStill (old new : Contexts) : Type 0 where
+  pub contexts : length new.seats ≡ length old.seats
+  pub programs : new.loading.programs ≡ old.loading.programs
+
+-- what a context of a setup runs
+abbrev pub run_of : Setup → Run
+run_of s = record { image = s.image; generation = description_of s.chosen }
 
 -- why a core isn't opened
 abbrev pub IsOpenFault : List Setup → OpenFault → Type 0
-IsOpenFault setups (NoUnit c kind) = first_without 0 setups ≡ Some (c, kind)
+IsOpenFault setups (NoUnit c kind) = first_without 0 (map run_of setups) ≡ Some (c, kind)
 IsOpenFault setups NoMemory = Unit {0}

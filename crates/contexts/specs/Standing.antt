@@ -5,6 +5,7 @@ use Rattle.machine_desc.specs.Value.{description_of}
 use Rattle.block_table.specs.Rows.{Rows, entry_of, count_of}
 use Rattle.timed_meaning.specs.declared.TimedOp.{TimedOp}
 use Rattle.timed_meaning.specs.Program.{Block}
+use Rattle.image_check.specs.Accepted.{IsAccepted}
 use Rattle.image_check.specs.Blocks.{rows_of, page_of, entry_behind, timed_block}
 use Rattle.paging.specs.Pages.{Page, need}
 use Rattle.block_ops.specs.Page.{ArePageOps}
@@ -90,9 +91,9 @@ pub record StandsIn (seat : code.Seat) (x : system.Context) : Type 0 where
   pub ready : IsReady (timed_block x.setup.formed place.row) seat.at seat.machine.moment
   pub below : seat.blocks < seat.bound
 
--- a context of a setup stands at its start, and its program is that of the setup
+-- a context of a setup, whose image is accepted, stands at its start, and a program is that of the setup
 pub record IsBegun (given : Setup) (seat : code.Seat) (p : Loaded) : Type 0 where
-  pub program : seat.program ≡ 0
+  pub accepted : IsAccepted given.image
   pub place : IsPlace (rows_of given.image) seat.place
   pub entry : seat.place.entry ≡ given.image.entry
   pub first : seat.at ≡ 0
@@ -105,6 +106,24 @@ pub record IsBegun (given : Setup) (seat : code.Seat) (p : Loaded) : Type 0 wher
   pub end : seat.end ≡ None
   pub image : p.image ≡ given.image
   pub chosen : p.chosen ≡ given.chosen
+
+-- two programs are the same: they have one image, in one generation
+pub record AreSame (p q : Loaded) : Type 0 where
+  pub image : p.image ≡ q.image
+  pub generation : description_of p.chosen ≡ description_of q.chosen
+
+-- the number of the first of some programs that is the same as one, or how many there are
+pub record IsFirstSame (programs : List Loaded) (p : Loaded) (n : ℕ) : Type 0 where
+  pub within : n ≤ length programs
+  pub same : (q : Loaded) → slice_get programs n ≡ Some q → AreSame q p
+  pub first : (m : ℕ) (q : Loaded) → m < n → slice_get programs m ≡ Some q → AreSame q p → ⊥
+
+-- the contexts of some setups stand at their starts, in order, and the program of each is the first that is the same as its own
+pub record AreBegun (setups : List Setup) (seats : List code.Seat) (programs : List Loaded) : Type 0 where
+  pub as_many : length seats ≡ length setups
+  pub own : length programs ≡ length setups
+  pub each : (c : ℕ) (given : Setup) (seat : code.Seat) (p : Loaded) → slice_get setups c ≡ Some given → slice_get seats c ≡ Some seat →
+      slice_get programs c ≡ Some p → IsBegun given seat p × IsFirstSame programs p seat.program
 
 -- the contexts of a core and its programs
 abbrev pub contexts_of : List code.Seat → Loading → Contexts

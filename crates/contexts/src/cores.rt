@@ -1,33 +1,33 @@
 // The contexts, and the pages of their programs.
-ghost use Rattle.std.specs.Prelude.{◌≡◌, ◌<◌, ◌≤◌, ◌↔◌, ℕ, List, [], ◌∷◌, length, None, IfOk, IsTrue, All, IfSome, MatchResult, is_some, slice_get, slice_index};
+ghost use Rattle.std.specs.Prelude.{◌≡◌, ◌<◌, ◌≤◌, ◌↔◌, ℕ, List, length, map, replicate, None, IfOk, IsTrue, All, IfSome, MatchResult, is_some, slice_get, slice_index};
 ghost use Rattle.std.specs.List.{list_all};
 ghost use Rattle.tnk_base.specs.declared.Key.{Key};
 ghost use Rattle.image_resched.specs.Laws.{IsMovable};
+ghost use Rattle.image_format.specs.Image.{page_count};
 ghost use Rattle.machine_desc.specs.Value.{description_of};
-ghost use Rattle.image_check.specs.Accepted.{IsAccepted};
 ghost use Rattle.page_fault.specs.Loading.{HasForm, IsThere, IsNeeded, counts_of};
 ghost use Rattle.context_system.specs.declared.Event.TheVariants.{Turn};
 ghost use Rattle.context_system.specs.Context as system;
+ghost use Rattle.context_system.specs.Needs.{first_without};
 ghost use Rattle.context_system.specs.System.{System, Admits as IsAdmitted, first, step, play, rounds};
-ghost use Rattle.contexts.specs.Core.{Holds, Admits, IsKeyOf, AreSetups, first_without, IsOpenFault};
-ghost use Rattle.contexts.specs.Standing.{AreOf, AreRead, IsBrought, IsBegun, IsCore, contexts_of, key_at};
+ghost use Rattle.contexts.specs.Core.{Holds, Admits, IsKeyOf, AreSetups, Runs, RunsStill, run_of, IsOpenFault};
+ghost use Rattle.contexts.specs.Standing.{AreOf, AreRead, IsBrought, IsCore, contexts_of, key_at};
 ghost use Rattle.image_check.specs.Blocks.{rows_of, timed_block};
 ghost use Rattle.contexts.specs.Going.{MayPlay, HasPlayed};
 
 use super::Setup;
+use super::opening::{all_seated, first_lacking};
 use super::pages::Pages;
-use super::seat::{Place, Seat};
+use super::seat::Seat;
 use block_table::PAGE;
 use context_system::Event;
-use cycle_sim::Machine;
 use cycle_sim::laws::ready_at_entry;
 use image_check::laws::programs_are_sound;
-use image_check::{Accepted, has_units};
 use image_format::laws::reads_back;
-use image_resched::laws::{each_is_rescheduled, one_rescheduled, rescheduled_is_accepted};
+use image_resched::laws::{forms_are_there, one_rescheduled, rescheduled_is_accepted};
 use operation::{End, UnitKind};
 use page_fault::laws::forms_are_of_the_image;
-use page_fault::{Counts, Loaded, Loader};
+use page_fault::{Counts, Loader};
 use std::alloc::Global;
 use std::marker::Model;
 use tnk_base::{Key, NoMemory};
@@ -117,6 +117,7 @@ fn turn(seats: &mut Vec<Seat>, loader: &mut Loader, pages: &mut Pages, c: u8)
     ensures step { (s : System) → Holds (contexts_of seats.old.items loader.old) s →
         Holds (contexts_of seats.new.items loader.new) (step s (Turn c)) }
     ensures size { length seats.new.items ≡ length seats.old.items }
+    ensures programs { loader.new.programs ≡ loader.old.programs }
 {
     reads_back();
     one_rescheduled();
@@ -136,74 +137,34 @@ fn all_ended(seats: &[Seat]) -> bool
     seats.iter().all(|seat| seat.end.is_some())
 }
 
-/// The context of a setup at its start, and its program.
-fn seated(alloc: Global, setup: Setup) -> Result<(Seat, Loaded), NoMemory>
-    ensures begun { IfOk result (λ r. IsBegun setup r.0 r.1) }
-    ensures accepted { IfOk result (λ r. IsAccepted setup.image) }
-{
-    programs_are_sound();
-    let Setup {
-        image,
-        chosen,
-        input,
-        limit,
-        bound,
-    } = setup;
-    let parts = image.parts();
-    let machine = Machine::new(alloc, parts.memory, &parts.init, input, limit)?;
-    let table = image.table();
-    let row = table.block_of(parts.entry).unwrap();
-    let seat = Seat {
-        program: 0,
-        machine,
-        place: Place::of(table, row),
-        at: 0,
-        blocks: 0,
-        bound,
-        end: None,
-    };
-    Ok((seat, Loaded { image, chosen }))
-}
-
-/// A list of one.
-fn one<T: Drop>(alloc: Global, x: T) -> Result<Vec<T>, NoMemory>
-    ensures { IfOk result (λ list. list.items ≡ x ∷ []) }
-{
-    let mut list = Vec::with_capacity(alloc, 1)?;
-    list.push(x)?;
-    Ok(list)
-}
-
 impl Core {
-    /// One context at its start, and no page in any frame: 1 to 1,024 frames, and room for 0 to 1,024 saved pages. All memory is
-    /// taken here.
+    /// 1 to 8 contexts at their starts, and no page in any frame: 1 to 1,024 frames, and room for 0 to 1,024 saved pages. Contexts
+    /// whose images and generations are equal share a program. All memory is taken here.
     pub fn open(
         alloc: Global,
         setups: Vec<Setup>,
         frames: u16,
         saved: u16,
     ) -> Result<Self, OpenFault>
-        requires one { length setups.items ≡ 1 }
+        requires one { 1 ≤ length setups.items }
+        requires few { length setups.items ≤ 8 }
         requires bound { All (λ s. 0 < s.bound) setups.items }
         requires some { 1 ≤ frames }
         requires frames { frames ≤ 1024 }
         requires saved { saved ≤ 1024 }
         ensures core { MatchResult result (λ core. (given : List system.Setup) → AreSetups setups.items given → Holds core (first given frames saved))
             (IsOpenFault setups.items) }
-        ensures units { IfOk result (λ core. first_without 0 setups.items ≡ None) }
+        ensures units { IfOk result (λ core. first_without 0 (map run_of setups.items) ≡ None) }
         ensures movable { IfOk result (λ _. All (λ s. IsMovable s.image (description_of s.chosen)) setups.items) }
+        ensures runs { IfOk result (Runs setups.items) }
     {
-        each_is_rescheduled();
+        forms_are_there();
         ready_at_entry();
-        rescheduled_is_accepted();
-        let mut setups = setups;
-        let setup = setups.pop().unwrap();
-        if let Some(kind) = has_units(&setup.image, &setup.chosen) {
-            return Err(OpenFault::NoUnit(0, kind));
+        reads_back();
+        if let Some((c, kind)) = first_lacking(&setups) {
+            return Err(OpenFault::NoUnit(c, kind));
         }
-        let (seat, program) = seated(alloc, setup)?;
-        let seats = one(alloc, seat)?;
-        let programs = one(alloc, program)?;
+        let (seats, programs) = all_seated(alloc, setups)?;
         let loader = Loader::new(alloc, programs, frames, saved)?;
         let pages = Pages::new(alloc, frames)?;
         Ok(Core {
@@ -233,10 +194,26 @@ impl Core {
             && self.loader.has_page(key)
     }
 
+    /// The key of a page of a context's program.
+    pub fn key(&self, c: u8, page: u16) -> Key
+        requires context { c < length self.now.seats }
+        requires page { IfSome (slice_get self.now.loading.programs c) (λ p. page < page_count p.image) }
+        ensures there { IsKeyOf self.now result }
+        ensures program { IfSome (slice_get self.now.seats c) (λ seat. result.program ≡ seat.program) }
+        ensures page { result.page ≡ page }
+    {
+        reads_back();
+        Key {
+            program: self.seats[c as usize].program,
+            page,
+        }
+    }
+
     /// Plays an event. It takes no memory.
     pub fn step(&mut self, e: Event)
         requires { Admits self.old e }
-        ensures { (s : System) → Holds self.old s → Holds self.new (step s e) }
+        ensures held { (s : System) → Holds self.old s → Holds self.new (step s e) }
+        ensures kept { RunsStill self.old self.new }
     {
         one_rescheduled();
         forms_are_of_the_image();
@@ -251,6 +228,20 @@ impl Core {
             Event::Prefetch(key) => {
                 bring(&mut self.loader, &mut self.pages, key);
             }
+        }
+    }
+
+    /// Gives a context so many turns, or as many as it wants to its end. It takes no memory.
+    pub fn turns(&mut self, c: u8, times: u32)
+        requires { c < length self.old.seats }
+        ensures held { (s : System) → Holds self.old s → Holds self.new (play s (replicate times (Turn c))) }
+        ensures kept { RunsStill self.old self.new }
+    {
+        for _ in 0..times {
+            if self.ended(c).is_some() {
+                return;
+            }
+            self.step(Event::Turn(c));
         }
     }
 

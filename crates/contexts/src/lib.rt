@@ -8,6 +8,7 @@
 #![tactic(auto)]
 
 mod cores;
+mod opening;
 mod pages;
 mod seat;
 

@@ -41,3 +41,6 @@ returns-else-is_none-clause-step c =
     stays_ended c.args.seats.now.items c.args.loader.now c.args.c seat
     (lent_at c.args.seats.now.items c.args.c seat c.requires.there c.index_mut-seat.ensures.value)
     (has_end seat.end c.is_none.result c.is_none.ensures c.if-is_none.false)
+
+pub returns-then-is_none-clause-programs : goal.returns-then-is_none-clause-programs
+returns-then-is_none-clause-programs c = c.play_on.ensures.brought.programs

@@ -30,8 +30,8 @@ invariant_of-self-in-Prefetch c =
     (subst (λ (core : Contexts). IsKeyOf core c.in-Prefetch.key) (sym c.self.view_is) (subst (Admits c.args.self.now) c.in-Prefetch.is c.requires))
     c.bring.ensures.brought c.bring.ensures.read c.bring.ensures.frames).core
 
-pub returns-in-Evict : goal.returns-in-Evict
-returns-in-Evict c s held =
+pub returns-in-Evict-clause-held : goal.returns-in-Evict-clause-held
+returns-in-Evict-clause-held c s held =
     let new : Contexts = contexts_of c.self.inside.seats.items c.evict.new.self in
     subst (λ (e : Event). Holds new (step s e)) (sym c.in-Evict.is)
     (of_each c.one_rescheduled.ensures c.self.inside.seats.items c.self.inside.loader c.self.inside.pages c.self.invariant new (Evict c.in-Evict.key)
@@ -39,8 +39,8 @@ returns-in-Evict c s held =
     c.evict.ensures.paging c.evict.ensures.frames_stay c.evict.ensures.programs).holds
     s (subst (λ (core : Contexts). Holds core s) (sym c.self.view_is) held))
 
-pub returns-in-Drop : goal.returns-in-Drop
-returns-in-Drop c s held =
+pub returns-in-Drop-clause-held : goal.returns-in-Drop-clause-held
+returns-in-Drop-clause-held c s held =
     let new : Contexts = contexts_of c.self.inside.seats.items c.drop_saved.new.self in
     subst (λ (e : Event). Holds new (step s e)) (sym c.in-Drop.is)
     (of_each c.one_rescheduled.ensures c.self.inside.seats.items c.self.inside.loader c.self.inside.pages c.self.invariant new (Drop c.in-Drop.key)
@@ -48,8 +48,8 @@ returns-in-Drop c s held =
     c.drop_saved.ensures.paging c.drop_saved.ensures.programs).holds
     s (subst (λ (core : Contexts). Holds core s) (sym c.self.view_is) held))
 
-pub returns-in-Prefetch : goal.returns-in-Prefetch
-returns-in-Prefetch c s held =
+pub returns-in-Prefetch-clause-held : goal.returns-in-Prefetch-clause-held
+returns-in-Prefetch-clause-held c s held =
     let new : Contexts = contexts_of c.self.inside.seats.items c.bring.new.loader in
     subst (λ (e : Event). Holds new (step s e)) (sym c.in-Prefetch.is)
     (of_each c.one_rescheduled.ensures c.self.inside.seats.items c.self.inside.loader c.self.inside.pages c.self.invariant new (Prefetch c.in-Prefetch.key)
