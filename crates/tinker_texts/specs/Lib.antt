@@ -1,3 +1,4 @@
 pub mod Report
+pub mod Looks
 pub mod Refusals
 pub mod Help

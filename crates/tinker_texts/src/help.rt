@@ -19,12 +19,13 @@ fn commands() -> &'static [u8]
 {
     b"\
 tinker: old VLIW object code on newer machine generations, with proved answers
-tinker check IMAGE                            says whether an image is accepted, or which rule it breaks first
-tinker meaning [SETTINGS] IMAGE INPUT         runs an image by its definition: how it ends, and what it puts out
-tinker run [SETTINGS] IMAGE GENERATION INPUT  runs an image on a generation, page by page, and tells its cycles
-tinker resched IMAGE GENERATION OUT           writes an image for another generation, which means the same
-tinker --help                                 puts out this page
-tinker --version                              puts out the version
+tinker check IMAGE                                says whether an image is accepted, or which rule it breaks first
+tinker meaning [SETTINGS] IMAGE INPUT             runs an image by its definition: how it ends, and what it puts out
+tinker run [SETTINGS] (IMAGE GENERATION INPUT)..  runs 1 to 8 images on generations, page by page, and tells the cycles
+tinker resched IMAGE GENERATION OUT               writes an image for another generation, which means the same
+tinker gen NUMBER BLOCKS OPS OUT                  writes an image drawn from a number, and runs it on t1, t2 and t3
+tinker --help                                     puts out this page
+tinker --version                                  puts out the version
 "
 }
 
@@ -35,12 +36,14 @@ fn rest() -> &'static [u8]
 {
     b"\
 INPUT is a file, or - for an empty input. GENERATION is own, t1, t2, t3 or a description file.
+NUMBER is 0 to 4294967295, BLOCKS 1 to 256, and OPS 1 to 500 operations of each block.
 SETTINGS, in any order, each at most once:
-  frames=N  has N frames for pages, for run alone: 1 to 1024, else 16
-  saved=N   saves at most N evicted pages, for run alone: 0 to 1024, else 16
-  bound=N   runs at most N blocks: 1 to 1000000, else 100000
-  limit=N   takes at most N bytes of output: 1 to 1048576, else 65536
-  dump=yes  shows the memory that isn't 0
+  frames=N     has N frames for pages, for run alone: 1 to 1024, else 16
+  saved=N      saves at most N evicted pages, for run alone: 0 to 1024, else 16
+  bound=N      runs at most N blocks of each image: 1 to 1000000, else 100000
+  limit=N      takes at most N bytes of output of each: 1 to 1048576, else 65536
+  script=FILE  plays the events of a file first, for run alone
+  dump=yes     shows the memory that isn't 0
 Status: 0 done, 1 a file is refused, 2 words without a form, 3 a file or the output fails, 4 no memory
 The manual is docs/MANUAL.md.
 "

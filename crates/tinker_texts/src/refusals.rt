@@ -1,7 +1,9 @@
 // How a refused file is told.
 ghost use Rattle.std.specs.Prelude.{Some, ◌≡◌, ◌++◌, IfOk, codes};
+ghost use Rattle.event_script.specs.Faults.{fault_text};
 ghost use Rattle.tinker_texts.specs.Refusals.{rule_name, place, refusal_text, too_long_text, mdes_fault_text, unit_letter, no_unit_text, context_name, refused_line};
 
+use event_script::ScriptFault;
 use image_check::{Refusal, Rule};
 use machine_desc::{MdesFault, key_name};
 use operation::UnitKind;
@@ -126,6 +128,14 @@ pub fn undescribed(alloc: Global, name: &str, fault: &MdesFault) -> Result<Vec<u
         MdesFault::NoMemory => format!(in alloc; "refused {name} \n"),
     };
     Ok(line?.into_bytes())
+}
+
+/// The line of a script that has a fault.
+pub fn unscripted(alloc: Global, name: &str, fault: ScriptFault) -> Result<Vec<u8>, AllocError>
+    ensures { IfOk result (λ line. line.items ≡ refused_line name.now (fault_text fault)) }
+{
+    let line = format!(in alloc; "refused {name} {fault}\n")?;
+    Ok(line.into_bytes())
 }
 
 fn letter(k: UnitKind) -> &'static str

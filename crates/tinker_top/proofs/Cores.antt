@@ -14,7 +14,7 @@ use Rattle.tinker_top.proofs.Texts.{texts_same}
 use Rattle.tinker_top.proofs.Reports.{part_of, cycles_of}
 
 -- a list of the same length has one at the same place
-there : {X Y : Type 0} (xs : List X) (ys : List Y) (c : ℕ) (y : Y) → length xs ≡ length ys → slice_get ys c ≡ Some y → (x : X) × (slice_get xs c ≡ Some x)
+pub there : {X Y : Type 0} (xs : List X) (ys : List Y) (c : ℕ) (y : Y) → length xs ≡ length ys → slice_get ys c ≡ Some y → (x : X) × (slice_get xs c ≡ Some x)
 there xs [] c y e h = absurd (let none : ⊥ = cc in none)
 there [] (z ∷ ys) c y e h = absurd (let none : ⊥ = cc in none)
 there (x ∷ xs) (z ∷ ys) zero y e h = (x, refl)
@@ -36,7 +36,7 @@ same_part dump n xs own seat x h = go x.end seat.end h.end
         ∙ ap (λ (m : Moment). part n dump o x.blocks m.state.output m.state.memory) (sym h.moment)
 
 module _ (core : Contexts) (s : System) (h : Holds core s) where
-  seated : (c : ℕ) (seat : Seat) (x : Context) → slice_get core.seats c ≡ Some seat → slice_get s.contexts c ≡ Some x → (own : Loaded) × IsSeated s.contexts own seat x
+  pub seated : (c : ℕ) (seat : Seat) (x : Context) → slice_get core.seats c ≡ Some seat → slice_get s.contexts c ≡ Some x → (own : Loaded) × IsSeated s.contexts own seat x
   seated c seat x at found = let own = there core.loading.programs s.contexts c x h.programs found in (own.0, h.each c own.0 seat x own.1 at found)
 
   pub shows_parts : (dump : Bool) → texts_from (seat_part dump) 0 core.seats ≡ texts_from (part_of dump) 0 s.contexts

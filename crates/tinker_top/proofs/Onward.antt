@@ -16,6 +16,7 @@ use Rattle.tinker_top.specs.declared.steps.Stop.TheVariants.{Refused, Fault, Mem
 use Rattle.tinker_top.specs.Outcome.{Outcome, after, says, refused, fetched, fetching}
 use Rattle.tinker_top.specs.Command.{if_it_has_units}
 use Rattle.tinker_top.specs.Top.{asked_too}
+use Rattle.event_script.specs.declared.reading.Line.{Line}
 use Rattle.tinker_top.specs.Run.{run_of}
 use Rattle.tinker_top.specs.Steps.{Leads, Begins, ComesTo, GivesTo, IsDecided, IsMoved, IsRun, IsEnding, MayKeep}
 use Rattle.tinker_top.proofs.Calls.{asked_too-none, asked_too-append, after-after, first_behind}
@@ -125,7 +126,8 @@ pub says_ending : (said : Said) (text : List ℕ) → said.kept ≡ None → sai
 says_ending said text none same = record { kept = None; keeps = subst (λ k. MayKeep k None) (sym none) tt; same = ap (says 0) (sym same) }
 
 -- contexts that ran were stopped without a call
-pub run_stops : (s : Settings) (contexts : List Context) (why : Stop) (old : Shown) → IsRun s contexts (Err why) → ComesTo (run_of s contexts) (Err why) old old
-run_stops s contexts (Refused line) old h = leads_to_same _ _ old old h refl
-run_stops s contexts Fault old h = absurd h
-run_stops s contexts Memory old h = begins_with_none _ old old refl
+pub run_stops : (s : Settings) (contexts : List Context) (lines : List Line) (why : Stop) (old : Shown) → IsRun s contexts lines (Err why) →
+    ComesTo (run_of s contexts lines) (Err why) old old
+run_stops s contexts lines (Refused line) old h = leads_to_same _ _ old old h refl
+run_stops s contexts lines Fault old h = absurd h
+run_stops s contexts lines Memory old h = begins_with_none _ old old refl

@@ -38,6 +38,10 @@ pub if_some : {X : Type 0} (o : Option X) (P Q : X → Type 0) → ((x : X) → 
 if_some None P Q f h = tt
 if_some (Some x) P Q f h = f x h
 
+pub if_both : {X : Type 0} (o : Option X) (P Q R : X → Type 0) → ((x : X) → P x → Q x → R x) → IfSome o P → IfSome o Q → IfSome o R
+if_both None P Q R f h k = tt
+if_both (Some x) P Q R f h k = f x h k
+
 past : {X : Type 0} (xs : List X) (c : ℕ) → c < length xs → slice_get xs c ≡ None → ⊥
 past [] c lt e = omega arith
 past (x ∷ xs) zero lt e = let none : ⊥ = cc in none

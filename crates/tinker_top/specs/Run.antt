@@ -1,22 +1,23 @@
 -- What the contexts of a run come to.
-use Rattle.std.specs.Prelude.{ℕ, suc, ◌*◌, ◌++◌, Bool, List, [], ◌∷◌, length, Option, Some, None}
-use Rattle.operation.specs.declared.UnitKind.{UnitKind}
+use Rattle.std.specs.Prelude.{ℕ, suc, ◌*◌, ◌++◌, Bool, List, [], ◌∷◌, length, map, Some, None}
 use Rattle.machine_desc.specs.Description.{Description}
 use Rattle.timed_meaning.specs.Program.{Meaning, mean}
 use Rattle.timed_meaning.specs.Cycles.{cycles}
 use Rattle.image_format.specs.Image.{Image}
 use Rattle.image_check.specs.Blocks.{program_in}
-use Rattle.image_check.specs.Units.{first_lacking}
 use Rattle.image_resched.specs.Laws.{Forms}
 use Rattle.block_steps.specs.Steps.{counted}
 use Rattle.paging.specs.Pages.{Paging}
 use Rattle.context_system.specs.Context.{Setup, running}
+use Rattle.context_system.specs.Needs.{Run, first_without}
 use Rattle.context_system.specs.System.{System, first, play, rounds}
 use Rattle.tinker_words.specs.declared.settings.Number.TheVariants.{Frames, Saved, Bound, Limit}
 use Rattle.tinker_words.specs.Settings.{Settings, number}
 use Rattle.tinker_texts.specs.Report.{part, cycles_line, pages_line}
 use Rattle.tinker_texts.specs.Refusals.{context_name, no_unit_text}
+use Rattle.event_script.specs.declared.reading.Line.{Line}
 use Rattle.tinker_top.specs.Outcome.{Outcome, says, refused}
+use Rattle.tinker_top.specs.Script.{behind_script, looks}
 
 -- what a context is given by the settings, an image, a generation and an input, where `forms` gives images in other generations
 abbrev pub context_of : Forms → Settings → Image → Description → (input : List ℕ) → Setup
@@ -29,10 +30,9 @@ context_of forms s image g input = record {
   bound = number s Bound;
 }
 
--- the first of the contexts, from the number i on, whose image uses a unit kind that its generation lacks, with the first such kind
-abbrev pub first_without : ℕ → List Setup → Option (ℕ × UnitKind)
-first_without i [] = None
-first_without i (x ∷ xs) = elim (first_lacking x.image x.generation) [ Some kind ↦ Some (i, kind) | None ↦ first_without (suc i) xs ]
+-- what a context runs
+abbrev pub runs_as : Setup → Run
+runs_as x = record { image = x.image; generation = x.generation }
 
 -- a meaning as the part of a context's number
 abbrev pub meant_part : ℕ → (dump : Bool) → Meaning → List ℕ
@@ -55,19 +55,25 @@ texts_from text i (x ∷ xs) = text i x ++ texts_from text (suc i) xs
 abbrev pub counts_line : Paging → List ℕ
 counts_line p = pages_line p.loaded p.rescheduled p.restored p.pages.evicted
 
--- the contexts and their pages when turns have gone round until all have ended: in 512 rounds a block has ended
-unfoldable pub played : Settings → List Setup → System
-played s setups = play (first setups (number s Frames) (number s Saved)) (rounds (length setups) (512 * number s Bound))
+-- the contexts at their starts
+abbrev pub begun : Settings → List Setup → System
+begun s setups = first setups (number s Frames) (number s Saved)
+
+-- the contexts and their pages when a script was played, and then turns have gone round until all have ended: in 512 rounds a block
+-- has ended
+unfoldable pub played : Settings → List Line → List Setup → System
+played s lines setups = play (behind_script (begun s setups) lines) (rounds (length setups) (512 * number s Bound))
 
 -- the report
-abbrev pub report : Settings → List Setup → List ℕ
-report s setups =
-    texts_from (λ i x. context_part i s.dump x) 0 setups
-    ++ (texts_from context_cycles 0 setups ++ counts_line (played s setups).paging)
+abbrev pub report : Settings → List Line → List Setup → List ℕ
+report s lines setups =
+    looks (begun s setups) lines
+    ++ (texts_from (λ i x. context_part i s.dump x) 0 setups
+    ++ (texts_from context_cycles 0 setups ++ counts_line (played s lines setups).paging))
 
 -- the report is put out, or the contexts are refused
-abbrev pub run_of : Settings → List Setup → Outcome
-run_of s setups = elim (first_without 0 setups) [
+abbrev pub run_of : Settings → List Setup → List Line → Outcome
+run_of s setups lines = elim (first_without 0 (map runs_as setups)) [
   | Some lack ↦ refused (context_name lack.0) (no_unit_text lack.1)
-  | None ↦ says 0 (report s setups)
+  | None ↦ says 0 (report s lines setups)
 ]

@@ -1,10 +1,10 @@
 -- How the program's own forms, targets and contexts stand for those of Words.antt.
-use Rattle.std.specs.Prelude.{[], ◌∷◌, option_map}
+use Rattle.std.specs.Prelude.{option_map}
 use Rattle.tinker_words.specs.declared.words.Form.{Form}
 use Rattle.tinker_words.specs.declared.words.Form.TheVariants as parsed
 use Rattle.tinker_words.specs.declared.words.Target as parsed_target
 use Rattle.tinker_words.specs.declared.words.NamedContext as parsed_context
-use Rattle.tinker_words.specs.Words.{Command, Help, Version, Check, Meaning, Run, Resched, Target, Own, T1, T2, T3, File, NamedContext}
+use Rattle.tinker_words.specs.Words.{Command, Help, Version, Check, Meaning, Run, Resched, Gen, Target, Own, T1, T2, T3, File, NamedContext}
 
 -- the generation
 abbrev pub aimed_at : parsed_target.Target → Target
@@ -24,5 +24,6 @@ asked_for parsed.Help = Help
 asked_for parsed.Version = Version
 asked_for (parsed.Check image) = Check image.now
 asked_for (parsed.Meaning s) = Meaning s
-asked_for (parsed.Run s context) = Run s (named context ∷ [])
+asked_for (parsed.Run s contexts) = Run s contexts
 asked_for (parsed.Resched image target out) = Resched image.now (aimed_at target) out.now
+asked_for (parsed.Gen workload out) = Gen workload out.now

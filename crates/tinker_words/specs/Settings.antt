@@ -1,23 +1,24 @@
 -- The settings of a command: the words `NAME=VALUE` that stand before its other words.
-use Rattle.std.specs.Prelude.{ℕ, Bool, true, false, not, ◌&&◌, ◌||◌, nat_le, List, [], ◌∷◌, length, take, drop, codes, bytes_eq, Option, Some, None, option_map, find, if◌then◌else◌}
+use Rattle.std.specs.Prelude.{ℕ, Bool, true, false, not, ◌&&◌, ◌||◌, nat_le, List, [], ◌∷◌, length, take, drop, codes, bytes_eq, Option, Some, None, option_map, is_some, find, if◌then◌else◌}
 use Rattle.tnk_text.specs.Digits.{decimal_in}
 use Rattle.tinker_words.specs.declared.settings.Number.{Number}
 use Rattle.tinker_words.specs.declared.settings.Number.TheVariants.{Frames, Saved, Bound, Limit}
 use Rattle.tinker_words.specs.declared.settings.Kind.{Kind}
-use Rattle.tinker_words.specs.declared.settings.Kind.TheVariants.{Counted, Dump}
+use Rattle.tinker_words.specs.declared.settings.Kind.TheVariants.{Counted, Script, Dump}
 
 -- what was given: how many frames there are for pages, how many evicted pages may be saved, the most blocks that a program
--- may run, the most bytes that it may put out, and that the memory is shown
+-- may run, the most bytes that it may put out, the file of a script, and that the memory is shown
 pub record Settings : Type 0 where
   pub frames : Option ℕ
   pub saved : Option ℕ
   pub bound : Option ℕ
   pub limit : Option ℕ
+  pub script : Option (List ℕ)
   pub dump : Bool
 
 -- nothing is given
 abbrev pub unset : Settings
-unset = record { frames = None; saved = None; bound = None; limit = None; dump = false }
+unset = record { frames = None; saved = None; bound = None; limit = None; script = None; dump = false }
 
 -- a row of the table of numbers: the name, the least and the greatest value, and the value where none is given
 pub record Row : Type 0 where
@@ -36,6 +37,7 @@ row Limit = record { name = codes "limit="; least = 1; most = 1048576; usual = 6
 -- the name of a setting, its `=` included
 abbrev pub name_of : Kind → List ℕ
 name_of (Counted n) = (row n).name
+name_of Script = codes "script="
 name_of Dump = codes "dump="
 
 -- the text begins with the prefix
@@ -77,11 +79,20 @@ first_number r _ v = None
 abbrev pub with_counted : Settings → Number → List ℕ → Option Settings
 with_counted s n value = option_map (with_number s n) (first_number (row n) (given s n) (decimal_in value))
 
+-- a word that names a file isn't empty
+abbrev pub is_name : List ℕ → Bool
+is_name [] = false
+is_name _ = true
+
+abbrev pub with_script : Settings → List ℕ → Option Settings
+with_script s name = if is_some s.script || not (is_name name) then None else Some (record s { script = Some name })
+
 abbrev pub with_dump : Settings → List ℕ → Option Settings
 with_dump s value = if s.dump || not (bytes_eq value (codes "yes")) then None else Some (record s { dump = true })
 
 abbrev pub with_setting : Settings → Kind → List ℕ → Option Settings
 with_setting s (Counted n) value = with_counted s n value
+with_setting s Script value = with_script s value
 with_setting s Dump value = with_dump s value
 
 -- the settings that the words begin with, behind some others, and the words behind them; none where one is faulty

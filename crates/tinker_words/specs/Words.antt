@@ -1,10 +1,11 @@
 -- What the words of the command line ask for.
-use Rattle.std.specs.Prelude.{ℕ, Bool, true, false, not, ◌&&◌, List, [], ◌∷◌, codes, bytes_eq, Option, Some, None, option_map, if◌then◌else◌}
-use Rattle.std.specs.List.{list_any}
+use Rattle.std.specs.Prelude.{ℕ, ◌%◌, Bool, ◌&&◌, nat_eq, nat_le, List, [], ◌∷◌, length, codes, bytes_eq, Option, Some, None, option_map, if◌then◌else◌}
+use Rattle.std.specs.List.{list_all}
+use Rattle.tnk_text.specs.Digits.{decimal_in}
 use Rattle.tinker_words.specs.declared.settings.Number.TheVariants.{Frames, Saved, Bound, Limit}
 use Rattle.tinker_words.specs.declared.settings.Kind.{Kind}
-use Rattle.tinker_words.specs.declared.settings.Kind.TheVariants.{Counted, Dump}
-use Rattle.tinker_words.specs.Settings.{Settings, unset, begins, settings}
+use Rattle.tinker_words.specs.declared.settings.Kind.TheVariants.{Counted, Script, Dump}
+use Rattle.tinker_words.specs.Settings.{Settings, unset, is_name, settings}
 
 -- a program whose meaning is asked for: its image, the file of its input, if it has one, and the settings
 pub record Setup : Type 0 where
@@ -26,6 +27,12 @@ pub record NamedContext : Type 0 where
   pub target : Target
   pub input : Option (List ℕ)
 
+-- an image that is generated: the number from which it is drawn, how many blocks it has, and how many operations each of them
+pub record Workload : Type 0 where
+  pub number : ℕ
+  pub blocks : ℕ
+  pub ops : ℕ
+
 -- the commands
 pub data Command : Type 0 where
   Help : Command
@@ -34,27 +41,15 @@ pub data Command : Type 0 where
   Meaning : Setup → Command
   Run : Settings → (contexts : List NamedContext) → Command
   Resched : (image : List ℕ) → Target → (out : List ℕ) → Command
-
--- a word that names a file isn't empty
-abbrev pub is_name : List ℕ → Bool
-is_name [] = false
-is_name _ = true
+  Gen : Workload → (out : List ℕ) → Command
 
 -- the settings of `meaning`
 abbrev pub meaning_kinds : List Kind
 meaning_kinds = Counted Bound ∷ (Counted Limit ∷ (Dump ∷ []))
 
--- those of `run`: two more
+-- those of `run`: three more
 abbrev pub run_kinds : List Kind
-run_kinds = Counted Frames ∷ (Counted Saved ∷ meaning_kinds)
-
--- what no word begins with that names an image of `run`
-abbrev pub setting_names : List (List ℕ)
-setting_names = codes "frames=" ∷ codes "saved=" ∷ codes "bound=" ∷ codes "limit=" ∷ codes "script=" ∷ codes "dump=" ∷ []
-
--- a word that names an image of `run`: not empty, and no setting
-abbrev pub is_image_name : List ℕ → Bool
-is_image_name word = is_name word && not (list_any (λ name. begins name word) setting_names)
+run_kinds = Counted Frames ∷ (Counted Saved ∷ (Script ∷ meaning_kinds))
 
 -- the file of the input, and none for `-`
 abbrev pub input_named : List ℕ → Option (List ℕ)
@@ -86,21 +81,54 @@ target_named word =
     (if bytes_eq word (codes "t3") then T3 else File word)))
 
 -- the context that three words name
-abbrev pub context_named : (image generation input : List ℕ) → Option NamedContext
-context_named image generation input =
-    if is_image_name image && (is_name generation && is_name input)
-    then Some (record { image = image; target = target_named generation; input = input_named input }) else None
+abbrev pub context_named : (image generation input : List ℕ) → NamedContext
+context_named image generation input = record { image = image; target = target_named generation; input = input_named input }
 
--- `IMAGE GENERATION INPUT`, which is one context
+-- each three words name a context
+abbrev pub contexts_named : List (List ℕ) → List NamedContext
+contexts_named (image ∷ (generation ∷ (input ∷ words))) = context_named image generation input ∷ contexts_named words
+contexts_named _ = []
+
+-- so many words as name 1 to 8 contexts
+abbrev pub is_count : ℕ → Bool
+is_count words = nat_eq (words % 3) 0 && (nat_le 3 words && nat_le words 24)
+
+-- they do
+abbrev pub name_contexts : List (List ℕ) → Bool
+name_contexts words = list_all is_name words && is_count (length words)
+
+-- `IMAGE GENERATION INPUT`, 1 to 8 times
 abbrev pub run_words : Settings → List (List ℕ) → Option Command
-run_words s (image ∷ (generation ∷ (input ∷ []))) = option_map (λ c. Run s (c ∷ [])) (context_named image generation input)
-run_words s _ = None
+run_words s words = if name_contexts words then Some (Run s (contexts_named words)) else None
 
 -- `IMAGE GENERATION OUT`
 abbrev pub resched_words : List (List ℕ) → Option Command
 resched_words (image ∷ (generation ∷ (out ∷ []))) =
     if is_name image && (is_name generation && is_name out) then Some (Resched image (target_named generation) out) else None
 resched_words _ = None
+
+-- the number that a word writes, where it is in a range
+abbrev pub ranged : (least most : ℕ) → List ℕ → Option ℕ
+ranged least most word = elim (decimal_in word) [
+  | None ↦ None
+  | Some v ↦ if nat_le least v && nat_le v most then Some v else None
+]
+
+-- what three words name
+abbrev pub workload_named : (number blocks ops : List ℕ) → Option Workload
+workload_named number blocks ops = elim (ranged 0 4294967295 number) [
+  | None ↦ None
+  | Some n ↦ elim (ranged 1 256 blocks) [
+    | None ↦ None
+    | Some b ↦ option_map (λ o. record { number = n; blocks = b; ops = o }) (ranged 1 500 ops)
+  ]
+]
+
+-- `NUMBER BLOCKS OPS OUT`
+abbrev pub gen_words : List (List ℕ) → Option Command
+gen_words (number ∷ (blocks ∷ (ops ∷ (out ∷ [])))) =
+    if is_name out then option_map (λ w. Gen w out) (workload_named number blocks ops) else None
+gen_words _ = None
 
 -- the settings, of those that a command has, and then the other words
 abbrev pub behind_settings : List Kind → (Settings → List (List ℕ) → Option Command) → List (List ℕ) → Option Command
@@ -113,6 +141,7 @@ command_of (verb ∷ words) =
     (if bytes_eq verb (codes "meaning") then behind_settings meaning_kinds meaning_words words else
     (if bytes_eq verb (codes "run") then behind_settings run_kinds run_words words else
     (if bytes_eq verb (codes "resched") then resched_words words else
+    (if bytes_eq verb (codes "gen") then gen_words words else
     (if bytes_eq verb (codes "--help") then alone Help words else
-    (if bytes_eq verb (codes "--version") then alone Version words else None)))))
+    (if bytes_eq verb (codes "--version") then alone Version words else None))))))
 command_of [] = None

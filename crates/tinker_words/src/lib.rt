@@ -7,6 +7,8 @@
 
 mod settings;
 mod words;
+mod workload;
 
 pub use settings::{Number, Settings};
-pub use words::{Command, Form, NamedContext, Setup, Target, parse};
+pub use words::{Command, Contexts, Form, NamedContext, Setup, Target, parse};
+pub use workload::Workload;

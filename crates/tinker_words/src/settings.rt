@@ -1,7 +1,8 @@
 // The settings of a command: the words `NAME=VALUE` that stand before its other words.
-ghost use Rattle.std.specs.Prelude.{◌≡◌, ◌≤◌, IfSome, drop, map, string_bytes, option_map};
+ghost use Rattle.std.specs.Prelude.{◌≡◌, ◌≤◌, true, false, None, Some, MatchOption, IfSome, length, drop, map, string_bytes, option_map};
 ghost use Rattle.tnk_text.specs.Digits.{decimal_in};
-ghost use Rattle.tinker_words.specs.Settings.{unset, row as row_of, name_of, begins as begins_with, setting_in, number as number_of, given, with_number as numbered, first_number as first_of, with_counted as counted, with_dump as dumped, with_setting as with_value, settings as settings_of};
+ghost use Rattle.tinker_words.specs.Settings.{unset, row as row_of, name_of, begins, setting_in, number as number_of, given, with_number as numbered, first_number as first_of, with_counted as counted, with_script as scripted, with_dump as dumped, with_setting as with_value, settings as settings_of};
+ghost use Rattle.tinker_words.specs.declared.settings.Number.{Number};
 ghost use Rattle.tinker_words.specs.Rows.{shown_row, IsInRange};
 
 use std::marker::Model;
@@ -24,6 +25,8 @@ pub enum Number {
 #[derive(Clone, Copy, Debug)]
 pub enum Kind {
     Counted(Number),
+    /// The file of a script.
+    Script,
     /// Whether the memory is shown.
     Dump,
 }
@@ -31,7 +34,7 @@ pub enum Kind {
 /// A row of the table of numbers: the name, the least and the greatest value, and the value where none is given.
 #[derive(Clone, Copy, Debug)]
 struct Row {
-    name: &'static [u8],
+    name: &'static str,
     least: u32,
     most: u32,
     usual: u32,
@@ -43,25 +46,25 @@ impl Number {
     {
         match self {
             Number::Frames => Row {
-                name: b"frames=",
+                name: "frames=",
                 least: 1,
                 most: 1_024,
                 usual: 16,
             },
             Number::Saved => Row {
-                name: b"saved=",
+                name: "saved=",
                 least: 0,
                 most: 1_024,
                 usual: 16,
             },
             Number::Bound => Row {
-                name: b"bound=",
+                name: "bound=",
                 least: 1,
                 most: 1_000_000,
                 usual: 100_000,
             },
             Number::Limit => Row {
-                name: b"limit=",
+                name: "limit=",
                 least: 1,
                 most: 1_048_576,
                 usual: 65_536,
@@ -72,27 +75,29 @@ impl Number {
 
 impl Kind {
     /// The name, its `=` included.
-    fn name(self) -> &'static [u8]
+    fn name(self) -> &'static str
         ensures { result.now ≡ name_of self }
     {
         match self {
             Kind::Counted(number) => number.row().name,
-            Kind::Dump => b"dump=",
+            Kind::Script => "script=",
+            Kind::Dump => "dump=",
         }
     }
 }
 
 /// The settings that were given.
-#[derive(Clone, Copy, Debug)]
-pub struct Settings {
+#[derive(Debug, Drop)]
+pub struct Settings<'a> {
     frames: Option<u32>,
     saved: Option<u32>,
     bound: Option<u32>,
     limit: Option<u32>,
+    script: Option<&'a str>,
     dump: bool,
 }
 
-impl Model for Settings {
+impl<'a> Model for Settings<'a> {
     ghost use Rattle.tinker_words.specs.Settings.{Settings};
 
     ghost Value = { Settings };
@@ -101,30 +106,28 @@ impl Model for Settings {
 
     ghost view = { given_settings };
 
-    ghost inverse = { λ s. record { frames = s.frames; saved = s.saved; bound = s.bound; limit = s.limit; dump = s.dump } };
-
     ghost invariant = { AreWithin };
 }
 
-/// Whether a text begins with a prefix.
-pub(crate) fn begins(text: &[u8], prefix: &[u8]) -> bool
-    ensures { result ≡ begins_with prefix.now text.now }
+/// The value of a setting of a kind, where a word names one.
+fn value(kind: Kind, word: &str) -> Option<&str>
+    ensures { MatchOption result (begins (name_of kind) word.now ≡ false)
+        (λ value. (begins (name_of kind) word.now ≡ true) × (value.now ≡ drop (length (name_of kind)) word.now)) }
 {
-    text.starts_with(prefix)
+    word.strip_prefix(kind.name())
 }
 
-/// What a text has behind its first `count` bytes.
-fn behind(count: usize, text: &[u8]) -> &[u8]
-    ensures { result.now ≡ drop count text.now }
+/// The setting that a word names, of those that a command has, and its value.
+fn setting<'a>(kinds: &[Kind], word: &'a str) -> Option<(Kind, &'a str)>
+    ensures { MatchOption result (setting_in kinds.now word.now ≡ None)
+        (λ r. (setting_in kinds.now word.now ≡ Some r.0) × (r.1.now ≡ drop (length (name_of r.0)) word.now)) }
 {
-    &text[count.min(text.len())..]
-}
-
-/// The setting that a word names, of those that a command has.
-fn setting(kinds: &[Kind], word: &[u8]) -> Option<Kind>
-    ensures { result ≡ setting_in kinds.now word.now }
-{
-    kinds.iter().copied().find(|kind| begins(word, kind.name()))
+    for kind in kinds {
+        if let Some(value) = value(*kind, word) {
+            return Some((*kind, value));
+        }
+    }
+    None
 }
 
 /// A number that is in its range, and wasn't given before.
@@ -138,7 +141,20 @@ fn first_number(row: &Row, before: Option<u32>, value: Option<u64>) -> Option<u3
     }
 }
 
-impl Settings {
+impl<'a> Settings<'a> {
+    /// So many frames for pages, and at most so many saved ones; nothing else is given.
+    pub fn of_pages(frames: u32, saved: u32) -> Self
+        requires frames { IsInRange (row_of Number.Frames) frames }
+        requires saved { IsInRange (row_of Number.Saved) saved }
+        ensures { result ≡ record unset { frames = Some frames; saved = Some saved } }
+    {
+        Settings {
+            frames: Some(frames),
+            saved: Some(saved),
+            ..Settings::none()
+        }
+    }
+
     /// Nothing is given.
     pub fn none() -> Self
         ensures { result ≡ unset }
@@ -148,6 +164,7 @@ impl Settings {
             saved: None,
             bound: None,
             limit: None,
+            script: None,
             dump: false,
         }
     }
@@ -173,6 +190,13 @@ impl Settings {
         self.given(number).unwrap_or(number.row().usual)
     }
 
+    /// The file of the script, if there is one.
+    pub fn script(&self) -> Option<&'a str>
+        ensures { option_map (λ name. name.now) result ≡ self.now.script }
+    {
+        self.script
+    }
+
     /// Whether the memory is shown.
     pub fn dump(&self) -> bool
         ensures { result ≡ self.now.dump }
@@ -181,11 +205,11 @@ impl Settings {
     }
 
     /// The settings with a number that is in its range; None where it isn't, or where it was given before.
-    fn with_counted(self, number: Number, value: &[u8]) -> Option<Self>
-        ensures { result ≡ counted self number value.now }
+    fn with_counted(self, number: Number, value: &str) -> Option<Self>
+        ensures { result ≡ counted self.entry number value.now }
     {
         let row = number.row();
-        let count = first_number(&row, self.given(number), decimal(value))?;
+        let count = first_number(&row, self.given(number), decimal(value.as_bytes()))?;
         Some(match number {
             Number::Frames => Settings {
                 frames: Some(count),
@@ -206,42 +230,53 @@ impl Settings {
         })
     }
 
-    fn with_dump(self, value: &[u8]) -> Option<Self>
-        ensures { result ≡ dumped self value.now }
+    /// The settings with a script; None where its name is empty, or one was given before.
+    fn with_script(self, name: &'a str) -> Option<Self>
+        ensures { result ≡ scripted self.entry name.now }
     {
-        if self.dump || value != b"yes".as_slice() {
+        if self.script.is_some() || name.is_empty() {
+            return None;
+        }
+        Some(Settings {
+            script: Some(name),
+            ..self
+        })
+    }
+
+    fn with_dump(self, value: &str) -> Option<Self>
+        ensures { result ≡ dumped self.entry value.now }
+    {
+        if self.dump || value != "yes" {
             return None;
         }
         Some(Settings { dump: true, ..self })
     }
 
     /// The settings with one more of this value; None where the value is faulty, or the setting was given before.
-    fn with(self, kind: Kind, value: &[u8]) -> Option<Self>
-        ensures { result ≡ with_value self kind value.now }
+    fn with(self, kind: Kind, value: &'a str) -> Option<Self>
+        ensures { result ≡ with_value self.entry kind value.now }
     {
         match kind {
             Kind::Counted(number) => self.with_counted(number, value),
+            Kind::Script => self.with_script(value),
             Kind::Dump => self.with_dump(value),
         }
     }
 
     /// The settings that the words begin with, behind these, and the words behind them; None where one is faulty.
-    pub(crate) fn and_then<'a>(
+    pub(crate) fn and_then(
         self,
         kinds: &[Kind],
         words: &'a [String],
     ) -> Option<(Self, &'a [String])>
-        ensures { option_map (λ r. (r.0, map string_bytes r.1.now)) result ≡ settings_of kinds.now self
+        ensures { option_map (λ r. (r.0, map string_bytes r.1.now)) result ≡ settings_of kinds.now self.entry
             (map string_bytes words.now) }
     {
         match words {
             [] => Some((self, words)),
-            [word, rest @ ..] => match setting(kinds, word.as_bytes()) {
+            [word, rest @ ..] => match setting(kinds, word.as_str()) {
                 None => Some((self, words)),
-                Some(kind) => {
-                    let value = behind(kind.name().len(), word.as_bytes());
-                    self.with(kind, value)?.and_then(kinds, rest)
-                }
+                Some((kind, value)) => self.with(kind, value)?.and_then(kinds, rest),
             },
         }
     }

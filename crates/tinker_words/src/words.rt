@@ -1,11 +1,12 @@
 // The commands, and the forms of their words.
-ghost use Rattle.std.specs.Prelude.{◌≡◌, Option, map, string_bytes, option_map};
-ghost use Rattle.std.specs.List.{list_any};
-ghost use Rattle.tinker_words.specs.Settings.{begins as begins_with};
+ghost use Rattle.std.specs.Prelude.{◌≡◌, ◌<◌, ◌≤◌, ◌+◌, ◌*◌, Option, Some, IsTrue, length, slice_get, map, string_bytes, option_map};
+ghost use Rattle.std.specs.List.{list_all};
+ghost use Rattle.tinker_words.specs.Settings.{is_name as names_file};
 ghost use Rattle.tinker_words.specs.Forms.{asked_for, aimed_at, named};
-ghost use Rattle.tinker_words.specs.Words.{is_name as names_file, setting_names, is_image_name as names_image, input_named, check_words as check_in, meaning_kinds, run_kinds, meaning_words as meaning_in, context_named, run_words as run_in, target_named, resched_words, behind_settings, alone, Help, Version, command_of};
+ghost use Rattle.tinker_words.specs.Words.{input_named, check_words as check_in, meaning_kinds, run_kinds, meaning_words as meaning_in, contexts_named, is_count as is_count_of_words, name_contexts, run_words as run_in, target_named, resched_words, gen_words, behind_settings, alone, Help, Version, command_of};
 
-use super::settings::{Kind, Number, Settings, begins};
+use super::settings::{Kind, Number, Settings};
+use super::workload::Workload;
 use std::marker::Model;
 
 /// A program whose meaning is asked for: its image, the file of its input, if it has one, and the settings.
@@ -13,7 +14,7 @@ use std::marker::Model;
 pub struct Setup<'a> {
     pub image: &'a str,
     pub input: Option<&'a str>,
-    pub settings: Settings,
+    pub settings: Settings<'a>,
 }
 
 impl<'a> Model for Setup<'a> {
@@ -45,6 +46,42 @@ pub struct NamedContext<'a> {
     pub input: Option<&'a str>,
 }
 
+/// The contexts of a run, 1 to 8, by the words that name them. Contracts see the list of them.
+#[derive(Debug, Drop)]
+pub struct Contexts<'a> {
+    words: &'a [String],
+}
+
+impl<'a> Model for Contexts<'a> {
+    ghost use Rattle.std.specs.Prelude.{List, map, string_bytes, IsTrue};
+    ghost use Rattle.tinker_words.specs.Words.{NamedContext, contexts_named, name_contexts};
+
+    ghost Value = { List NamedContext };
+
+    ghost view = { λ c. contexts_named (map string_bytes c.words.now) };
+
+    ghost invariant = { λ c. IsTrue (name_contexts (map string_bytes c.words.now)) };
+}
+
+impl<'a> Contexts<'a> {
+    /// How many there are, 1 to 8.
+    pub fn count(&self) -> usize
+        ensures count { result ≡ length self.now }
+        ensures some { 1 ≤ result }
+        ensures few { result ≤ 8 }
+    {
+        contexts_in(self.words)
+    }
+
+    /// The context of a number.
+    pub fn context(&self, i: usize) -> NamedContext<'a>
+        requires { i < length self.now }
+        ensures { slice_get self.now i ≡ Some (named result) }
+    {
+        context_in(self.words, i)
+    }
+}
+
 /// The forms that words may have.
 #[derive(Debug, Drop)]
 pub enum Form<'a> {
@@ -52,10 +89,12 @@ pub enum Form<'a> {
     Version,
     Check(&'a str),
     Meaning(Setup<'a>),
-    /// The settings and the one context.
-    Run(Settings, NamedContext<'a>),
+    /// The settings and the contexts.
+    Run(Settings<'a>, Contexts<'a>),
     /// An image, the generation for which it is rescheduled, and the file of the image for that.
     Resched(&'a str, Target<'a>, &'a str),
+    /// What is generated, and the file that it is kept in.
+    Gen(Workload, &'a str),
 }
 
 /// What the words ask for.
@@ -81,10 +120,11 @@ const MEANING_KINDS: [Kind; 3] = [
     Kind::Dump,
 ];
 
-/// The settings of `run`: two more.
-const RUN_KINDS: [Kind; 5] = [
+/// The settings of `run`: three more.
+const RUN_KINDS: [Kind; 6] = [
     Kind::Counted(Number::Frames),
     Kind::Counted(Number::Saved),
+    Kind::Script,
     Kind::Counted(Number::Bound),
     Kind::Counted(Number::Limit),
     Kind::Dump,
@@ -95,25 +135,6 @@ fn is_name(word: &str) -> bool
     ensures { result ≡ names_file word.now }
 {
     !word.is_empty()
-}
-
-/// Whether a word can name an image of `run`.
-fn is_image_name(word: &str) -> bool
-    ensures { result ≡ names_image word.now }
-{
-    is_name(word) && !is_setting(word.as_bytes())
-}
-
-/// Whether a word begins as a setting of `run` does.
-fn is_setting(word: &[u8]) -> bool
-    ensures { result ≡ list_any (λ name. begins_with name word.now) setting_names }
-{
-    begins(word, b"frames=")
-        || begins(word, b"saved=")
-        || begins(word, b"bound=")
-        || begins(word, b"limit=")
-        || begins(word, b"script=")
-        || begins(word, b"dump=")
 }
 
 /// The file of the input, None for `-`.
@@ -144,8 +165,8 @@ fn check(words: &[String]) -> Option<Form<'_>>
     }
 }
 
-fn meaning_words(settings: Settings, words: &[String]) -> Option<Form<'_>>
-    ensures { option_map asked_for result ≡ meaning_in settings (map string_bytes words.now) }
+fn meaning_words<'a>(settings: Settings<'a>, words: &'a [String]) -> Option<Form<'a>>
+    ensures { option_map asked_for result ≡ meaning_in settings.entry (map string_bytes words.now) }
 {
     match words {
         [image, file] if is_name(image.as_str()) && is_name(file.as_str()) => {
@@ -172,29 +193,57 @@ fn named_target(word: &str) -> Target<'_>
     }
 }
 
-/// The context that three words name.
-fn named_context<'a>(image: &'a str, generation: &'a str, file: &'a str) -> Option<NamedContext<'a>>
-    ensures { option_map named result ≡ context_named image.now generation.now file.now }
+/// How many contexts words name, three each.
+fn contexts_in(words: &[String]) -> usize
+    requires { IsTrue (name_contexts (map string_bytes words.now)) }
+    ensures count { result ≡ length (contexts_named (map string_bytes words.now)) }
+    ensures some { 1 ≤ result }
+    ensures few { result ≤ 8 }
 {
-    if !is_image_name(image) || !is_name(generation) || !is_name(file) {
-        return None;
-    }
-    Some(NamedContext {
-        image,
-        target: named_target(generation),
-        input: input(file),
-    })
+    words.len() / 3
 }
 
-fn run_words(settings: Settings, words: &[String]) -> Option<Form<'_>>
-    ensures { option_map asked_for result ≡ run_in settings (map string_bytes words.now) }
+/// The context of a number, of those that words name.
+fn context_in(words: &[String], i: usize) -> NamedContext<'_>
+    requires { 3 * i + 2 < length words.now }
+    ensures { slice_get (contexts_named (map string_bytes words.now)) i ≡ Some (named result) }
 {
-    match words {
-        [image, generation, file] => {
-            let context = named_context(image.as_str(), generation.as_str(), file.as_str())?;
-            Some(Form::Run(settings, context))
-        }
-        _ => None,
+    let at = 3 * i;
+    NamedContext {
+        image: words[at].as_str(),
+        target: named_target(words[at + 1].as_str()),
+        input: input(words[at + 2].as_str()),
+    }
+}
+
+/// Whether each of some words can name a file.
+fn are_names(words: &[String]) -> bool
+    ensures { result ≡ list_all (λ w. names_file (string_bytes w)) words.now }
+{
+    words.iter().all(|word| is_name(word.as_str()))
+}
+
+/// Whether so many words name 1 to 8 contexts, three each.
+fn is_count(words: usize) -> bool
+    ensures { result ≡ is_count_of_words words }
+{
+    words % 3 == 0 && words >= 3 && words <= 24
+}
+
+/// Whether words name 1 to 8 contexts.
+fn are_contexts(words: &[String]) -> bool
+    ensures { result ≡ name_contexts (map string_bytes words.now) }
+{
+    are_names(words) && is_count(words.len())
+}
+
+fn run_words<'a>(settings: Settings<'a>, words: &'a [String]) -> Option<Form<'a>>
+    ensures { option_map asked_for result ≡ run_in settings.entry (map string_bytes words.now) }
+{
+    if are_contexts(words) {
+        Some(Form::Run(settings, Contexts { words }))
+    } else {
+        None
     }
 }
 
@@ -209,6 +258,18 @@ fn resched(words: &[String]) -> Option<Form<'_>>
                 named_target(generation.as_str()),
                 out.as_str(),
             ))
+        }
+        _ => None,
+    }
+}
+
+fn generate(words: &[String]) -> Option<Form<'_>>
+    ensures { option_map asked_for result ≡ gen_words (map string_bytes words.now) }
+{
+    match words {
+        [number, blocks, ops, out] if is_name(out.as_str()) => {
+            let workload = Workload::named(number.as_str(), blocks.as_str(), ops.as_str())?;
+            Some(Form::Gen(workload, out.as_str()))
         }
         _ => None,
     }
@@ -242,6 +303,7 @@ fn form_of(words: &[String]) -> Option<Form<'_>>
             "meaning" => meaning(others),
             "run" => run(others),
             "resched" => resched(others),
+            "gen" => generate(others),
             "--help" => help(others),
             "--version" => version(others),
             _ => None,

@@ -16,7 +16,7 @@ use Rattle.tinker_top.specs.Run.{context_of}
 use Rattle.tinker_top.specs.Command.{with_image, with_target, with_input, with_context}
 use Rattle.tinker_top.specs.Steps.{GivesTo, as_given}
 use Rattle.tinker_top.proofs.Onward.{passed_on, stops_within, gives_on, leads_to_same}
-use Rattle.tinker_top.proofs.running.context.Goals as goal
+use Rattle.tinker_top.proofs.gathering.context.Goals as goal
 
 -- what comes behind the image, and behind the generation
 abbrev behind_generation : Forms → Settings → NamedContext → Files → Image → (Setup → Outcome) → Description → Outcome
