@@ -1,2 +1,4 @@
 -- lemmas
+pub mod Cached
+pub mod Played
 pub mod Scheduled

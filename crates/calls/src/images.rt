@@ -3,6 +3,8 @@
 ghost use Rattle.std.specs.Prelude.{IfSome};
 ghost use Rattle.image_format.specs.Image.{IsWithinLimits};
 ghost use Rattle.image_format.specs.Parts.{image_of};
+ghost use Rattle.timed_meaning.specs.Program.{program_of};
+ghost use Rattle.timed_meaning.specs.Sound.{IsSound};
 
 use super::descriptions::{Numbers, SHORT, T1, T2, WIDER, described};
 use super::files::change;
@@ -15,13 +17,13 @@ use std::alloc::{AllocError, Global};
 use timed_meaning::{Program, TimedBlock};
 
 /// `addi r1, r0, 65`.
-const ADD: u64 = 0x8008_8020_0000_0041;
+pub(crate) const ADD: u64 = 0x8008_8020_0000_0041;
 
 /// `outb r1`.
-const PUT: u64 = 0x901C_8001_0000_0000;
+pub(crate) const PUT: u64 = 0x901C_8001_0000_0000;
 
 /// `outb r1` with a pause of 3.
-const PUT_AND_WAIT: u64 = 0x90DC_8001_0000_0000;
+pub(crate) const PUT_AND_WAIT: u64 = 0x90DC_8001_0000_0000;
 
 /// `pbr b1, 0`.
 const PREPARE: u64 = 0x8010_8020_0000_0000;
@@ -36,7 +38,7 @@ const HALT: u64 = 0xA02A_0000_0000_0000;
 const HALT_R1: u64 = 0xA02A_0001_0000_0000;
 
 /// A description, the entry, the rows, and the words from the places on.
-type Image = (
+pub(crate) type Image = (
     Numbers,
     u32,
     &'static [(u32, u16)],
@@ -92,19 +94,24 @@ fn parts(alloc: Global, pages: u16, image: &Image) -> Option<Parts>
 }
 
 /// The image of so many pages, with some bytes changed, where it is accepted.
-fn accepted(alloc: Global, pages: u16, image: &Image, changes: &[(usize, u8)]) -> Option<Accepted> {
+pub(crate) fn accepted(
+    alloc: Global,
+    pages: u16,
+    image: &Image,
+    changes: &[(usize, u8)],
+) -> Option<Accepted> {
     let parts = parts(alloc, pages, image)?;
     let mut bytes = write_parts(alloc, &parts).ok()?;
     change(&mut bytes, changes);
     check(alloc, &bytes).ok()
 }
 
-const ONE_ROW: Image = (T1, 0, &[(0, 3)], &[(0, &[ADD, PUT, HALT])]);
+pub(crate) const ONE_ROW: Image = (T1, 0, &[(0, 3)], &[(0, &[ADD, PUT, HALT])]);
 
-const TWO_ROWS: Image = (T1, 0, &[(0, 2), (2, 1)], &[(0, &[ADD, PUT, HALT])]);
+pub(crate) const TWO_ROWS: Image = (T1, 0, &[(0, 2), (2, 1)], &[(0, &[ADD, PUT, HALT])]);
 
 /// Two pages: on the first two blocks, on the second one, which goes back to the first.
-const TWO_PAGES: Image = (
+pub(crate) const TWO_PAGES: Image = (
     T1,
     3,
     &[(0, 2), (3, 1), (512, 3)],
@@ -204,7 +211,9 @@ fn are_blocks(blocks: &[TimedBlock], cases: &[Timed]) -> bool {
 }
 
 /// The program of an image, where it is accepted.
-fn meant(alloc: Global, pages: u16, image: &Image) -> Option<Program> {
+pub(crate) fn meant(alloc: Global, pages: u16, image: &Image) -> Option<Program>
+    ensures { IfSome result (λ p. IsSound (program_of p)) }
+{
     program(alloc, &accepted(alloc, pages, image, &[])?).ok()
 }
 

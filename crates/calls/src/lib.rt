@@ -8,6 +8,8 @@
 #[cfg(test)]
 mod blocks;
 #[cfg(test)]
+mod cores;
+#[cfg(test)]
 mod delays;
 #[cfg(test)]
 mod description_files;
@@ -22,9 +24,15 @@ mod images;
 #[cfg(test)]
 mod links;
 #[cfg(test)]
+mod loaders;
+#[cfg(test)]
+mod machines;
+#[cfg(test)]
 mod meanings;
 #[cfg(test)]
 mod operations;
+#[cfg(test)]
+mod page_caches;
 #[cfg(test)]
 mod places;
 #[cfg(test)]
