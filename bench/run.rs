@@ -1,7 +1,7 @@
 //! The machine of `run` in plain Rust without proofs: an image's operations are read once, page by page as a page is first
 //! touched, and played MultiOp by MultiOp over a state and a wheel of what lands in the cycles to come. `bench/time.py` compiles
 //! and times it beside the program, on the generation that the image was made for.
-//! It knows the operations of bench/images.py alone, latencies of 1 and no trap, and checks nothing.
+//! It knows the operations of bench/images.py and of `gen` alone, and no trap, and checks nothing.
 //!
 //! `run IMAGE BLOCKS`
 
@@ -11,6 +11,11 @@ use std::fs;
 #[derive(Clone, Copy)]
 enum Op {
     Add(u8, u8, u8),
+    Sub(u8, u8, u8),
+    Xor(u8, u8, u8),
+    ShlImm(u8, u8, u32),
+    Less(u8, u8, u8, u8),
+    Outb(u8),
     AddImm(u8, u8, u32),
     Mul(u8, u8, u8),
     Load(u8, u8, u32),
@@ -23,20 +28,24 @@ enum Op {
 #[derive(Clone, Copy)]
 struct Timed {
     op: Op,
+    guard: u8,
     at: u32,
     latency: u32,
 }
 
 enum Landing {
     General(u8, u32),
+    Predicate(u8, bool),
     Target(u8, u32),
     Word(u32, u32),
 }
 
 struct Machine {
     general: [u32; 32],
+    predicates: [bool; 16],
     targets: [u32; 8],
     memory: Vec<u8>,
+    output: Vec<u8>,
     wheel: Vec<Vec<Landing>>,
 }
 
@@ -54,6 +63,11 @@ fn decode(word: u64) -> Op {
     let (d, s, tail) = ((word >> 37 & 31) as u8, (word >> 32 & 31) as u8, word as u32);
     match word >> 47 & 127 {
         1 => Op::Add(d, s, (tail & 31) as u8),
+        2 => Op::Sub(d, s, (tail & 31) as u8),
+        5 => Op::Xor(d, s, (tail & 31) as u8),
+        22 => Op::ShlImm(d, s, tail),
+        57 => Op::Outb(s),
+        66 => Op::Less(d, (tail >> 11 & 31) as u8, s, (tail >> 16 & 31) as u8),
         17 => Op::AddImm(d, s, tail),
         33 => Op::Pbr(d & 7, tail),
         40 => Op::Mul(d, s, (tail & 31) as u8),
@@ -70,8 +84,22 @@ struct Page {
     ends: Vec<u32>,
 }
 
-fn read(words: &[u64], rows: &[(u32, u16)], n: u32) -> Page {
-    let none = Timed { op: Op::Halt(0), at: 0, latency: 1 };
+/// The place of an operation's latency among alu mul div load store io cmp pbr branch.
+fn latency_kind(op: Op) -> usize {
+    match op {
+        Op::Mul(..) => 1,
+        Op::Load(..) => 3,
+        Op::Store(..) => 4,
+        Op::Outb(_) => 5,
+        Op::Less(..) => 6,
+        Op::Pbr(..) => 7,
+        Op::Bru(_) | Op::Halt(_) => 8,
+        _ => 0,
+    }
+}
+
+fn read(words: &[u64], rows: &[(u32, u16)], latencies: &[u8], n: u32) -> Page {
+    let none = Timed { op: Op::Halt(0), guard: 0, at: 0, latency: 1 };
     let mut page = Page { ops: vec![none; 512], ends: vec![0; 512] };
     let first = rows.partition_point(|row| row.0 < 512 * n);
     for (entry, count) in rows[first..].iter().take_while(|row| row.0 < 512 * n + 512) {
@@ -82,7 +110,9 @@ fn read(words: &[u64], rows: &[(u32, u16)], n: u32) -> Page {
                 present = next;
                 next += 1 + (word >> 54 & 31) as u32;
             }
-            page.ops[*entry as usize % 512 + k] = Timed { op: decode(word), at: present, latency: 1 };
+            let op = decode(word);
+            let latency = latencies[latency_kind(op)] as u32;
+            page.ops[*entry as usize % 512 + k] = Timed { op, guard: (word >> 42 & 31) as u8 & 15, at: present, latency };
         }
         page.ends[*entry as usize % 512] = next;
     }
@@ -95,19 +125,36 @@ impl Machine {
         for landing in slot.drain(..) {
             match landing {
                 Landing::General(d, value) => self.general[d as usize] = value,
+                Landing::Predicate(p, value) => self.predicates[p as usize] = value,
                 Landing::Target(d, value) => self.targets[d as usize] = value,
                 Landing::Word(address, value) => self.memory[address as usize..address as usize + 4].copy_from_slice(&value.to_le_bytes()),
             }
         }
         self.general[0] = 0;
+        self.predicates[0] = true;
         self.wheel[cycle as usize % 32] = slot;
     }
 
     fn issue(&mut self, timed: &Timed, answer: &mut Answer) {
+        if !self.predicates[timed.guard as usize] {
+            return;
+        }
         let lands = (timed.at + timed.latency) as usize % 32;
         let general = |r: u8| self.general[r as usize & 31];
         let landing = match timed.op {
             Op::Add(d, s, t) => Landing::General(d, general(s).wrapping_add(general(t))),
+            Op::Sub(d, s, t) => Landing::General(d, general(s).wrapping_sub(general(t))),
+            Op::Xor(d, s, t) => Landing::General(d, general(s) ^ general(t)),
+            Op::ShlImm(d, s, n) => Landing::General(d, general(s) << (n & 31)),
+            Op::Less(p, q, s, t) => {
+                let less = (general(s) as i32) < general(t) as i32;
+                self.wheel[lands].push(Landing::Predicate(p & 15, less));
+                Landing::Predicate(q & 15, !less)
+            }
+            Op::Outb(s) => {
+                self.output.push(general(s) as u8);
+                return;
+            }
             Op::AddImm(d, s, n) => Landing::General(d, general(s).wrapping_add(n)),
             Op::Mul(d, s, t) => Landing::General(d, general(s).wrapping_mul(general(t))),
             Op::Load(d, s, n) => {
@@ -156,12 +203,13 @@ fn main() {
     let code: Vec<u64> = (0..512 * pages).map(|k| number(&bytes[begin + 8 * k..begin + 8 * k + 8]) as u64).collect();
     let mut data = bytes[39 + 6 * count..begin].to_vec();
     data.resize(memory, 0);
-    let mut machine = Machine { general: [0; 32], targets: [0; 8], memory: data, wheel: (0..32).map(|_| Vec::with_capacity(2048)).collect() };
+    let latencies = &bytes[30..39];
+    let mut machine = Machine { general: [0; 32], predicates: [false; 16], output: Vec::new(), targets: [0; 8], memory: data, wheel: (0..32).map(|_| Vec::with_capacity(2048)).collect() };
     let mut read_pages: Vec<Option<Page>> = (0..pages).map(|_| None).collect();
     let (mut at, mut blocks, mut cycles) = (entry, 0, 0u64);
     while blocks < bound {
         let row = rows.binary_search_by_key(&at, |row| row.0).unwrap();
-        let page = read_pages[at as usize / 512].get_or_insert_with(|| read(&code, &rows, at / 512));
+        let page = read_pages[at as usize / 512].get_or_insert_with(|| read(&code, &rows, latencies, at / 512));
         let (start, count) = (at as usize % 512, rows[row].1 as usize);
         let end = page.ends[start];
         let answer = machine.block(&page.ops[start..start + count], end);
@@ -176,5 +224,6 @@ fn main() {
             }
         }
     }
-    println!("{blocks} blocks, {cycles} cycles, r1 {}", machine.general[1]);
+    let sum = machine.output.iter().fold(0u32, |sum, byte| sum.wrapping_mul(31).wrapping_add(*byte as u32));
+    println!("{blocks} blocks, {cycles} cycles, r1 {}, output {} {sum}", machine.general[1], machine.output.len());
 }

@@ -4,8 +4,10 @@ The first lines tell the command, the seconds of the quickest of five runs, and 
 multiple of its file. The next lines compare `check` and `resched` with plain.rs, plain Rust that does the search for orders
 and the schedules alone, and by all pairs of a block's operations, over images of 256 pages of blocks of so many operations:
 the nanoseconds for each operation, of the program and of plain.rs by turns, and how many times plain.rs's they are. Both
-write the same file. The last lines compare `run` with run.rs, a machine in plain Rust, on the generation of the image, and tell
-what it costs to load a page that is in no frame: to copy it, to reschedule it, and to restore it.
+write the same file. The next lines compare `run` with run.rs, a machine in plain Rust, on the generation of the image, and tell
+what it costs to load a page that is in no frame: to copy it, to reschedule it, and to restore it. The last lines are of a generated
+image of 256 blocks of 500 operations: its making, its run beside run.rs, eight contexts of it that have their turns by rounds and by a
+script, and pages that two generations of it take from each other in one frame.
 """
 
 import os
@@ -80,6 +82,36 @@ def play(program, machine, folder):
         print(" ".join(words), f"{beyond_one(program, folder, words, 20_000, ours) / 20_000 * 1e6:.1f}")
 
 
+def loaded(program, folder, words):
+    """How many pages a run loads, by its own count."""
+    text = subprocess.run([program, *words], cwd=folder, stdout=subprocess.PIPE, check=True).stdout
+    return int(text.rsplit(b"pages loaded ", 1)[1].split()[0])
+
+
+def interleave(program, machine, folder):
+    """Eight contexts of a generated image, turn by turn."""
+    print(f"gen 7 256 500 big: {seconds(program, folder, ['gen', '7', '256', '500', 'big']):.3f} s")
+    ours = lambda words, blocks: ["run", f"bound={blocks}", *words]
+    theirs = lambda words, blocks: ["big", str(blocks)]
+    multi_ops = 255 * 500 + 1
+    eight = ["big", "own", "-"] * 8
+    plain = beyond_one(machine, folder, [], 256, theirs)
+    print("millions of MultiOps a second of run, of run.rs, and how many times the time of run.rs")
+    for name, words, contexts in [("one", eight[:3], 1), ("eight", eight, 8)]:
+        spent = beyond_one(program, folder, words, 256, ours)
+        print(f"{name} {contexts * multi_ops / spent / 1e6:.1f}, {multi_ops / plain / 1e6:.1f}, {spent / plain / contexts:.2f}")
+    with open(os.path.join(folder, "turns"), "w") as script:
+        script.write("".join(f"turn {c}\n" for _ in range(32 * 500) for c in range(8)))
+    rounds, script = (seconds(program, folder, ours(words + eight, 32)) for words in ([], ["script=turns"]))
+    print(f"128000 turns of eight contexts: {rounds:.3f} s by rounds, {script:.3f} s by the lines of a script")
+    print("thousands of pages a second that are loaded, turn by turn in one frame: own ones, own and rescheduled ones, and restored ones")
+    for words in (["saved=0", "big", "own", "-", "other", "own", "-"], ["saved=0", "big", "own", "-", "big", "t2", "-"], ["saved=2", "big", "own", "-", "big", "t2", "-"]):
+        words = ["frames=1", *words]
+        pages = loaded(program, folder, ours(words, 101)) - loaded(program, folder, ours(words, 1))
+        spent = seconds(program, folder, ours(words, 101)) - seconds(program, folder, ours(words, 1))
+        print(f"{' '.join(words)} {pages / spent / 1e3:.1f}, of {pages}")
+
+
 def main():
     if shutil.which("rustc") is None:
         sys.exit("no rustc: plain.rs and peak.rs can't be compiled")
@@ -95,6 +127,8 @@ def main():
         measure(program, peak, folder, ["run", "loop", "own", "-"])
         compare(program, plain, folder)
         play(program, machine, folder)
+        subprocess.run([program, "gen", "8", "256", "500", "other"], cwd=folder, stdout=subprocess.DEVNULL, check=True)
+        interleave(program, machine, folder)
 
 
 main()
