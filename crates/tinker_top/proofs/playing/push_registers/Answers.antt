@@ -1,4 +1,4 @@
-use Rattle.std.proofs.Common.{◌≡◌, ◌+◌, ◌++◌, ℕ, List, string_bytes, ap, sym, ◌∙◌, append_assoc}
+use Rattle.std.proofs.Common.{◌≡◌, ◌+◌, ◌++◌, ℕ, List, string_bytes, IfSome, ap, sym, subst, ◌∙◌, append_assoc, arith}
 use Rattle.std.specs.Prelude.{slice_get, slice_index}
 use Rattle.std.specs.List.{flat_map, range_with_len}
 use Rattle.contexts.specs.Core.{Seat}
@@ -22,3 +22,11 @@ loop-r-preserved c =
     ∙ append_assoc before (flat_map line (range_with_len 0 r)) (line r)
     ∙ ap (λ t. before ++ t) (sym (flat_map-range_with_len-more line r)))
     c.loop-r.invariant c.general.ensures
+
+pub returns : goal.returns
+returns c =
+    let below = c.loop-r-test.false in
+    let most = c.loop-r.auto in
+    let all : c.loop-r.r ≡ 32 = omega arith in
+    subst (λ (n : ℕ). IfSome (slice_get c.args.core.now.seats c.args.c) (λ (seat : Seat). string_bytes c.loop-r.text
+    ≡ string_bytes c.args.text.now ++ flat_map (λ r. register_text r (slice_index seat.moment.state.general r)) (range_with_len 0 n))) all c.loop-r.invariant
