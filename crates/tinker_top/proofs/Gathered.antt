@@ -3,6 +3,7 @@ use Rattle.std.proofs.Common.{◌≡◌, ℕ, zero, suc, ◌+◌, List, [], ◌�
 use Rattle.std.specs.Prelude.{slice_get, All}
 use mathlib.Core.Path.{fun_ext}
 use Rattle.tnk_base.specs.Host.{Files, Shown, Stands, HasCause}
+use Rattle.image_format.specs.Image.{page_count}
 use Rattle.image_resched.specs.Laws.{Forms}
 use Rattle.context_system.specs.Context.{Setup as Context}
 use Rattle.contexts.specs.declared.Setup.{Setup as Given}
@@ -11,8 +12,9 @@ use Rattle.tinker_words.specs.Words.{NamedContext}
 use Rattle.tinker_top.specs.declared.steps.Stop.{Stop}
 use Rattle.tinker_top.specs.declared.steps.Stop.TheVariants.{Refused, Fault, Memory}
 use Rattle.tinker_top.specs.Outcome.{Outcome}
-use Rattle.tinker_top.specs.Command.{with_context, with_contexts}
-use Rattle.tinker_top.specs.Steps.{Reads, Leads, GivesTo, HasGiven, HasBound, as_given, all_given}
+use Rattle.tinker_top.specs.Command.{with_context, with_contexts, pages_of}
+use Rattle.run_report.specs.Setups.{HasBound, as_given, all_given, page_counts}
+use Rattle.tinker_top.specs.Steps.{Reads, Leads, GivesTo, HasGiven}
 use Rattle.tinker_top.proofs.Onward.{leads_to_itself, leads_on, leads_to_same, begins_on}
 
 -- what the next of some contexts does, and then the rest
@@ -100,3 +102,8 @@ reads_behind old mid new F stands faults r = record {
   stands = record { files = r.stands.files ∙ stands.files; out = r.stands.out ∙ stands.out };
   cause = subst (λ n. HasCause n new.faults F) faults r.cause;
 }
+
+-- the numbers of pages of their images
+pub pages_are : (forms : Forms) (setups : List Given) → pages_of (map (as_given forms) setups) ≡ page_counts setups
+pages_are forms [] = refl
+pages_are forms (x ∷ xs) = ap (λ l. page_count x.image ∷ l) (pages_are forms xs)

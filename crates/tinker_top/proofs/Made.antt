@@ -17,9 +17,10 @@ use Rattle.tinker_top.specs.declared.steps.Said.{Said}
 use Rattle.tinker_top.specs.declared.steps.Stop.{Stop}
 use Rattle.tinker_top.specs.declared.steps.Stop.TheVariants.{Refused, Fault, Memory}
 use Rattle.tinker_top.specs.Outcome.{Outcome, says, refused}
-use Rattle.tinker_top.specs.Run.{runs_as, report, run_of}
-use Rattle.tinker_top.specs.Command.{generated_contexts}
-use Rattle.tinker_top.specs.Steps.{HasBound, AreGiven, ComesTo, IsMade, IsRun}
+use Rattle.run_report.specs.Run.{runs_as, report}
+use Rattle.tinker_top.specs.Command.{run_of, generated_contexts}
+use Rattle.run_report.specs.Setups.{HasBound, AreGiven}
+use Rattle.tinker_top.specs.Steps.{ComesTo, IsMade, IsRun}
 use Rattle.tinker_top.proofs.Onward.{leads_to_itself, begins_with_none}
 use Rattle.tnk_base.specs.Host.{Shown}
 

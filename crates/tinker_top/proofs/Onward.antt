@@ -14,10 +14,9 @@ use Rattle.tinker_top.specs.declared.steps.Said.{Said}
 use Rattle.tinker_top.specs.declared.steps.Stop.{Stop}
 use Rattle.tinker_top.specs.declared.steps.Stop.TheVariants.{Refused, Fault, Memory}
 use Rattle.tinker_top.specs.Outcome.{Outcome, after, says, refused, fetched, fetching}
-use Rattle.tinker_top.specs.Command.{if_it_has_units}
+use Rattle.tinker_top.specs.Command.{if_it_has_units, run_of}
 use Rattle.tinker_top.specs.Top.{asked_too}
 use Rattle.event_script.specs.declared.reading.Line.{Line}
-use Rattle.tinker_top.specs.Run.{run_of}
 use Rattle.tinker_top.specs.Steps.{Leads, Begins, ComesTo, GivesTo, IsDecided, IsMoved, IsRun, IsEnding, MayKeep}
 use Rattle.tinker_top.proofs.Calls.{asked_too-none, asked_too-append, after-after, first_behind}
 

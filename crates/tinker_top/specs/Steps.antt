@@ -1,5 +1,5 @@
 -- How far a command has come. For contracts within the crate.
-use Rattle.std.specs.Prelude.{ℕ, ◌≡◌, ◌≤◌, Bool, List, [], length, take, map, slice_get, All, Vec, Option, Some, None, Result, Ok, Err}
+use Rattle.std.specs.Prelude.{ℕ, ◌≡◌, List, take, Vec, Option, Some, None, Result, Ok, Err}
 use Rattle.std.specs.Global.{Global}
 use Rattle.std.specs.Option.{ForSome}
 use Rattle.tnk_base.specs.declared.host.Asked.{Asked}
@@ -8,31 +8,22 @@ use Rattle.machine_desc.specs.declared.Mdes.{Mdes}
 use Rattle.machine_desc.specs.Description.{Description}
 use Rattle.machine_desc.specs.Value.{description_of}
 use Rattle.machine_desc.specs.File.{read_description}
-use Rattle.image_format.specs.Image.{Image, page_count}
+use Rattle.image_format.specs.Image.{Image}
 use Rattle.image_check.specs.Units.{first_lacking}
 use Rattle.image_check.specs.Rules.{first_broken}
 use Rattle.image_check.specs.declared.rules.CheckFault.{CheckFault}
 use Rattle.image_check.specs.declared.rules.CheckFault.TheVariants as check
-use Rattle.image_resched.specs.Laws.{Forms}
 use Rattle.context_system.specs.Context.{Setup as Context}
-use Rattle.contexts.specs.declared.Setup.{Setup as Given}
-use Rattle.page_fault.specs.declared.Loaded.{Loaded}
-use Rattle.contexts.specs.Core.{Seat, Contexts}
 use Rattle.event_script.specs.declared.reading.Line.{Line}
-use Rattle.event_script.specs.declared.reading.Line.TheVariants.{Look}
-use Rattle.event_script.specs.Script.{script, IsFor}
-use Rattle.tinker_words.specs.declared.settings.Number.TheVariants.{Bound}
-use Rattle.tinker_words.specs.Settings.{Settings, number}
-use Rattle.tinker_texts.specs.Report.{part, cycles_line}
-use Rattle.tinker_texts.specs.Looks.{look_line, ended_line}
+use Rattle.event_script.specs.Script.{script}
+use Rattle.tinker_words.specs.Settings.{Settings}
 use Rattle.tinker_texts.specs.Refusals.{refused_line, refusal_text}
 use Rattle.tinker_top.specs.declared.steps.Said.{Said}
 use Rattle.tinker_top.specs.declared.steps.Keeping.{Keeping}
 use Rattle.tinker_top.specs.declared.steps.Stop.{Stop}
 use Rattle.tinker_top.specs.declared.steps.Stop.TheVariants.{Refused, Fault, Memory}
 use Rattle.tinker_top.specs.Outcome.{Outcome, Kept, HasContent, ends, says, after}
-use Rattle.tinker_top.specs.Run.{run_of}
-use Rattle.tinker_top.specs.Command.{if_accepted, if_described, if_scripted, if_it_has_units}
+use Rattle.tinker_top.specs.Command.{if_accepted, if_described, if_scripted, if_it_has_units, run_of}
 use Rattle.tinker_top.specs.Top.{asked_too}
 
 -- the host was only read: its files and its output stand, and a fault has its cause
@@ -123,65 +114,9 @@ IsMade o (Err (Refused line)) = ⊥
 IsMade o (Err Fault) = ⊥
 IsMade o (Err Memory) = Unit {0}
 
--- a context as it was fetched, where `forms` gives images in other generations
-abbrev pub as_given : Forms → Given → Context
-as_given forms x = record {
-  image = x.image;
-  generation = description_of x.chosen;
-  formed = forms x.image (description_of x.chosen);
-  input = x.input.items;
-  limit = x.limit;
-  bound = x.bound;
-}
-
--- all of them
-abbrev pub all_given : Forms → Vec Given Global → List Context
-all_given forms setups = map (as_given forms) setups.items
-
--- a context of a core that has ended, as its part of the report, and its cycles
-abbrev pub seat_part : (dump : Bool) → ℕ → Seat → List ℕ
-seat_part dump i seat = elim seat.end [
-  | None ↦ []
-  | Some e ↦ part i dump e seat.blocks seat.moment.state.output seat.moment.state.memory
-]
-
-abbrev pub seat_cycles : ℕ → Seat → List ℕ
-seat_cycles i seat = cycles_line i seat.moment.cycles
-
--- a context as it was fetched has the bound of the settings, at least 1
-pub record HasBound (s : Settings) (x : Given) : Type 0 where
-  pub same : x.bound ≡ number s Bound
-  pub some : 1 ≤ x.bound
-
--- a context of a core as it is looked at
-abbrev pub seat_look : ℕ → Seat → List ℕ
-seat_look c seat = elim seat.end [
-  | None ↦ look_line c seat.entry seat.moment.clock (length seat.moment.state.output) seat.moment.state.general
-  | Some e ↦ ended_line c
-]
-
--- what a line of a script puts out, by the contexts of a core
-abbrev pub shown_of : List Seat → Line → List ℕ
-shown_of seats (Look c) = elim (slice_get seats c) [ None ↦ [] | Some seat ↦ seat_look c seat ]
-shown_of seats _ = []
-
--- lines are about the contexts of a core, and pages of their programs
-abbrev pub AreFor : Contexts → List Line → Type 0
-AreFor core lines = (length core.loading.programs ≡ length core.seats) × All (IsFor (map (λ (p : Loaded). page_count p.image) core.loading.programs)) lines
-
--- the numbers of pages of the images of contexts as they were fetched
-abbrev pub page_counts : List Given → List ℕ
-page_counts setups = map (λ s. page_count s.image) setups
-
 -- a script has these lines, or it is refused for its first fault
 abbrev pub IsScripted : (name : List ℕ) → (pages bytes : List ℕ) → Result (Vec Line Global) Stop → Type 0
 IsScripted name pages bytes = IsDecided (λ lines. lines.items) (λ next. if_scripted name next (script pages bytes))
-
--- contexts as they were fetched, 1 to 8
-pub record AreGiven (s : Settings) (setups : List Given) : Type 0 where
-  pub some : 1 ≤ length setups
-  pub few : length setups ≤ 8
-  pub bounds : All (HasBound s) setups
 
 -- the contexts' report is this text, or they are refused
 abbrev pub IsRun : Settings → List Context → List Line → Result (Vec ℕ Global) Stop → Type 0

@@ -6,7 +6,8 @@ ghost use Rattle.event_script.specs.Script.{script as script_of, IsFor};
 ghost use Rattle.tinker_words.specs.Forms.{named as named_in};
 ghost use Rattle.tinker_top.specs.Outcome.{fetching};
 ghost use Rattle.tinker_top.specs.Command.{with_context, with_contexts, with_script, if_scripted, script_limit};
-ghost use Rattle.tinker_top.specs.Steps.{Reads, HasGiven, HasBound, AreGiven, IsScripted, as_given, all_given, page_counts as counts_of};
+ghost use Rattle.run_report.specs.Setups.{HasBound, AreGiven, as_given, all_given, page_counts as counts_of};
+ghost use Rattle.tinker_top.specs.Steps.{Reads, HasGiven, IsScripted};
 
 use super::commands::{image, input};
 use super::moving::generation;

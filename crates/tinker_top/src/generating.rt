@@ -4,9 +4,10 @@ ghost use Rattle.image_format.specs.Bytes.{bytes_of};
 ghost use Rattle.image_resched.specs.Laws.{Forms, AreForms};
 ghost use Rattle.machine_desc.specs.Value.{description_of};
 ghost use Rattle.tinker_texts.specs.Report.{wrote_line};
-ghost use Rattle.tinker_top.specs.Run.{context_of};
+ghost use Rattle.run_report.specs.Run.{context_of};
 ghost use Rattle.tinker_top.specs.Command.{image_of, generated_contexts, gen_command};
-ghost use Rattle.tinker_top.specs.Steps.{HasBound, AreGiven, IsMade, as_given, all_given};
+ghost use Rattle.run_report.specs.Setups.{HasBound, AreGiven, as_given, all_given};
+ghost use Rattle.tinker_top.specs.Steps.{IsMade};
 
 use super::running::ran;
 use super::steps::{Keeping, Said, Stop};

@@ -12,9 +12,10 @@ use Rattle.tinker_words.specs.Settings.{Settings}
 use Rattle.tinker_words.specs.Words.{NamedContext}
 use Rattle.tinker_words.specs.Forms.{named}
 use Rattle.tinker_top.specs.Outcome.{Outcome}
-use Rattle.tinker_top.specs.Run.{context_of}
+use Rattle.run_report.specs.Run.{context_of}
 use Rattle.tinker_top.specs.Command.{with_image, with_target, with_input, with_context}
-use Rattle.tinker_top.specs.Steps.{GivesTo, as_given}
+use Rattle.run_report.specs.Setups.{as_given}
+use Rattle.tinker_top.specs.Steps.{GivesTo}
 use Rattle.tinker_top.proofs.Onward.{passed_on, stops_within, gives_on, leads_to_same}
 use Rattle.tinker_top.proofs.gathering.context.Goals as goal
 

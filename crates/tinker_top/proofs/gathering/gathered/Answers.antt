@@ -5,7 +5,8 @@ use Rattle.contexts.specs.declared.Setup.{Setup as Given}
 use Rattle.tinker_words.specs.Forms.{named as named_in}
 use Rattle.tinker_top.specs.declared.steps.Stop.TheVariants.{Memory}
 use Rattle.tinker_top.specs.Command.{with_contexts}
-use Rattle.tinker_top.specs.Steps.{GivesTo, all_given}
+use Rattle.run_report.specs.Setups.{all_given}
+use Rattle.tinker_top.specs.Steps.{GivesTo}
 use Rattle.tinker_top.proofs.Onward.{passed_on, begun}
 use Rattle.tinker_top.proofs.Gathered.{AreFetched, one_more_fetched, stops_there}
 use Rattle.tinker_top.proofs.gathering.gathered.Goals as goal

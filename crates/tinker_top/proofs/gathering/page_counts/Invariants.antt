@@ -1,5 +1,5 @@
 use Rattle.std.proofs.Common.{◌≡◌, take}
-use Rattle.tinker_top.specs.Steps.{page_counts as counts_of}
+use Rattle.run_report.specs.Setups.{page_counts as counts_of}
 use Rattle.tinker_top.proofs.gathering.page_counts.Given as goal
 
 abbrev pub invariant-loop-setup : goal.invariant-loop-setup

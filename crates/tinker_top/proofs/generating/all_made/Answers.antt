@@ -1,8 +1,8 @@
 use Rattle.std.proofs.Common.{[], map, ap, ◌∙◌}
 use Rattle.machine_desc.specs.Description.{Description}
-use Rattle.tinker_top.specs.Run.{context_of}
+use Rattle.run_report.specs.Run.{context_of}
 use Rattle.tinker_top.specs.Command.{image_of}
-use Rattle.tinker_top.specs.Steps.{as_given}
+use Rattle.run_report.specs.Setups.{as_given}
 use Rattle.tinker_top.proofs.Made.{same_three}
 use Rattle.tinker_top.proofs.generating.all_made.Goals as goal
 

@@ -5,7 +5,7 @@ use Rattle.context_system.specs.Context.{Setup as Context}
 use Rattle.tinker_words.specs.Settings.{Settings}
 use Rattle.tinker_texts.specs.Report.{wrote_line}
 use Rattle.tinker_top.specs.Outcome.{Generated, ends}
-use Rattle.tinker_top.specs.Run.{report}
+use Rattle.run_report.specs.Run.{report}
 use Rattle.tinker_top.specs.Command.{image_of, generated_settings, generated_contexts, generated_text}
 use Rattle.tinker_top.specs.Steps.{IsRun}
 use Rattle.tinker_top.proofs.Made.{text_is}

@@ -7,11 +7,11 @@ use Rattle.tnk_base.specs.Host.{Files, Shown}
 use Rattle.tinker_top.specs.declared.steps.Stop.{Stop}
 use Rattle.tinker_top.specs.declared.steps.Stop.TheVariants.{Memory}
 use Rattle.tinker_top.specs.Outcome.{says}
-use Rattle.tinker_top.specs.Run.{run_of}
-use Rattle.tinker_top.specs.Command.{with_contexts, with_script, pages_of, run_with, run_command}
-use Rattle.tinker_top.specs.Steps.{ComesTo, GivesTo, IsRun, all_given, page_counts}
+use Rattle.tinker_top.specs.Command.{with_contexts, with_script, pages_of, run_of, run_with, run_command}
+use Rattle.run_report.specs.Setups.{all_given, page_counts}
+use Rattle.tinker_top.specs.Steps.{ComesTo, GivesTo, IsRun}
 use Rattle.tinker_top.proofs.Onward.{passed_on, stops, comes_on, run_stops, leads_to_same, begins_with_none}
-use Rattle.tinker_top.proofs.Given.{pages_are}
+use Rattle.tinker_top.proofs.Gathered.{pages_are}
 use Rattle.tinker_top.proofs.running.run.Goals as goal
 
 pub returns-in_err-setups-clause-come : goal.returns-in_err-setups-clause-come

@@ -13,9 +13,9 @@ use Rattle.tinker_words.specs.declared.settings.Number.TheVariants.{Frames, Save
 use Rattle.tinker_words.specs.Settings.{Settings, number}
 use Rattle.tinker_texts.specs.Report.{part, cycles_line}
 use Rattle.event_script.specs.declared.reading.Line.{Line}
-use Rattle.tinker_top.specs.Script.{events_of, behind_line, behind_script}
-use Rattle.tinker_top.specs.Run.{texts_from, meant_part, context_part, context_cycles, begun, played}
-use Rattle.tinker_top.proofs.Texts.{texts_same}
+use Rattle.run_report.specs.Script.{events_of, behind_line, behind_script}
+use Rattle.run_report.specs.Run.{texts_from, meant_part, context_part, context_cycles, begun, played}
+use Rattle.run_report.proofs.Texts.{texts_same}
 
 -- a context that has ended, as its part of the report, and its cycles
 abbrev pub part_of : (dump : Bool) → ℕ → Context → List ℕ

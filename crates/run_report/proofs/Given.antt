@@ -1,4 +1,4 @@
--- Contexts as they were fetched are setups that a core can open.
+-- Contexts as they are given are setups that a core can open.
 use Rattle.std.proofs.Common.{◌≡◌, zero, suc, List, [], ◌∷◌, length, map, refl, sym, ap, subst, ◌∙◌, arith}
 use Rattle.std.specs.Prelude.{All}
 use Rattle.std.proofs.lemmas.List.{length-map}
@@ -13,9 +13,9 @@ use Rattle.event_script.specs.declared.reading.Line.{Line}
 use Rattle.event_script.specs.Script.{IsFor}
 use Rattle.tinker_words.specs.declared.settings.Number.TheVariants.{Bound}
 use Rattle.tinker_words.specs.Settings.{Settings, number}
-use Rattle.tinker_top.specs.Run.{runs_as}
-use Rattle.tinker_top.specs.Command.{pages_of}
-use Rattle.tinker_top.specs.Steps.{AreFor, HasBound, as_given, page_counts}
+use Rattle.run_report.specs.Run.{runs_as}
+use Rattle.run_report.specs.Seats.{AreFor}
+use Rattle.run_report.specs.Setups.{HasBound, as_given, page_counts}
 
 rest : {X : Type 0} (P : X → Type 0) (x : X) (xs : List X) → All P (x ∷ xs) → All P xs
 rest P x xs h = λ k d lt. h (suc k) d (omega arith)
@@ -45,10 +45,6 @@ bounds_are forms s (x ∷ xs) b (suc k) d lt = bounds_are forms s xs (rest (HasB
 pub runs_are : (forms : Forms) (setups : List Given) → map runs_as (map (as_given forms) setups) ≡ map run_of setups
 runs_are forms [] = refl
 runs_are forms (x ∷ xs) = ap (λ l. run_of x ∷ l) (runs_are forms xs)
-
-pub pages_are : (forms : Forms) (setups : List Given) → pages_of (map (as_given forms) setups) ≡ page_counts setups
-pages_are forms [] = refl
-pages_are forms (x ∷ xs) = ap (λ l. page_count x.image ∷ l) (pages_are forms xs)
 
 -- ---- the lines of their script
 

@@ -8,10 +8,10 @@ use Rattle.context_system.specs.Context.{Context}
 use Rattle.context_system.specs.System.{System}
 use Rattle.contexts.specs.Core.{Seat, Contexts, IsSeated, Holds}
 use Rattle.tinker_texts.specs.Report.{part, cycles_line}
-use Rattle.tinker_top.specs.Run.{texts_from}
-use Rattle.tinker_top.specs.Steps.{seat_part, seat_cycles}
-use Rattle.tinker_top.proofs.Texts.{texts_same}
-use Rattle.tinker_top.proofs.Reports.{part_of, cycles_of}
+use Rattle.run_report.specs.Run.{texts_from}
+use Rattle.run_report.specs.Seats.{seat_part, seat_cycles}
+use Rattle.run_report.proofs.Texts.{texts_same}
+use Rattle.run_report.proofs.Reports.{part_of, cycles_of}
 
 -- a list of the same length has one at the same place
 pub there : {X Y : Type 0} (xs : List X) (ys : List Y) (c : ℕ) (y : Y) → length xs ≡ length ys → slice_get ys c ≡ Some y → (x : X) × (slice_get xs c ≡ Some x)

@@ -1,7 +1,7 @@
 -- One line after another.
 use Rattle.std.proofs.Common.{string_bytes}
-use Rattle.tinker_top.proofs.Scripts.{one_line_more, line_is_for}
-use Rattle.tinker_top.proofs.playing.play_script.Goals as goal
+use Rattle.run_report.proofs.Scripts.{one_line_more, line_is_for}
+use Rattle.run_report.proofs.playing.play_script.Goals as goal
 
 pub push_shown-requires : goal.push_shown-requires
 push_shown-requires c = line_is_for c.args.core.now c.loop-line.core c.args.lines.now c.loop-line.line-index _ c.requires c.loop-line.invariant.kept c.loop-line-test.true

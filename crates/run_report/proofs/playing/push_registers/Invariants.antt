@@ -2,7 +2,7 @@ use Rattle.std.proofs.Common.{◌≡◌, ◌++◌, string_bytes, IfSome}
 use Rattle.std.specs.Prelude.{slice_get, slice_index}
 use Rattle.std.specs.List.{flat_map, range_with_len}
 use Rattle.tinker_texts.specs.Looks.{register_text}
-use Rattle.tinker_top.proofs.playing.push_registers.Given as goal
+use Rattle.run_report.proofs.playing.push_registers.Given as goal
 
 abbrev pub invariant-loop-r : goal.invariant-loop-r
 invariant-loop-r l = IfSome (slice_get l.core.seats l.c) (λ seat. string_bytes l.text

@@ -4,8 +4,8 @@ use Rattle.std.specs.List.{flat_map, range_with_len}
 use Rattle.contexts.specs.Core.{Seat}
 use Rattle.tinker_texts.specs.Looks.{register_text}
 use Rattle.tinker_texts.proofs.HexLines.{flat_map-range_with_len-more}
-use Rattle.tinker_top.proofs.Texts.{if_both}
-use Rattle.tinker_top.proofs.playing.push_registers.Goals as goal
+use Rattle.run_report.proofs.Texts.{if_both}
+use Rattle.run_report.proofs.playing.push_registers.Goals as goal
 
 pub loop-r-preserved : goal.loop-r-preserved
 loop-r-preserved c =

@@ -3,7 +3,7 @@ use Rattle.std.proofs.Common.{◌≡◌, ℕ, zero, suc, ◌+◌, List, [], ◌�
 use Rattle.std.proofs.Math.Seq.{take-length}
 use Rattle.std.specs.Prelude.{slice_get}
 use Rattle.std.proofs.lemmas.List.{append-nil}
-use Rattle.tinker_top.specs.Run.{texts_from}
+use Rattle.run_report.specs.Run.{texts_from}
 
 -- one more behind the first c
 pub texts_more : {X : Type 0} (text : ℕ → X → List ℕ) (xs : List X) (i c : ℕ) (x : X) → slice_get xs c ≡ Some x →

@@ -14,9 +14,9 @@ use Rattle.event_script.specs.declared.reading.Line.{Line}
 use Rattle.event_script.specs.declared.reading.Line.TheVariants.{Turn, Evict, Drop, Prefetch, Look}
 use Rattle.event_script.specs.Script.{IsFor, IsPage}
 use Rattle.tinker_texts.specs.Looks.{look_line, ended_line}
-use Rattle.tinker_top.specs.Script.{key_in, behind_line, behind_script, look_at, shown_by, looks}
-use Rattle.tinker_top.specs.Steps.{AreFor, seat_look, shown_of}
-use Rattle.tinker_top.proofs.Cores.{there, seated}
+use Rattle.run_report.specs.Script.{key_in, behind_line, behind_script, look_at, shown_by, looks}
+use Rattle.run_report.specs.Seats.{AreFor, seat_look, shown_of}
+use Rattle.run_report.proofs.Cores.{there, seated}
 
 -- ---- one line
 

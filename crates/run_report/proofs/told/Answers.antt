@@ -5,12 +5,12 @@ use Rattle.context_system.specs.System.{System, play, rounds}
 use Rattle.contexts.specs.Core.{Contexts, Holds}
 use Rattle.tinker_words.specs.declared.settings.Number.TheVariants.{Bound}
 use Rattle.tinker_words.specs.Settings.{number}
-use Rattle.tinker_top.specs.Script.{behind_script, looks}
-use Rattle.tinker_top.specs.Run.{texts_from, context_part, context_cycles, counts_line, begun, played}
-use Rattle.tinker_top.specs.Steps.{seat_part, seat_cycles}
-use Rattle.tinker_top.proofs.Reports.{end, is_behind, is_played, many_behind, parts_are, cycles_are}
-use Rattle.tinker_top.proofs.Cores.{shows_parts, shows_cycles}
-use Rattle.tinker_top.proofs.running.report.Goals as goal
+use Rattle.run_report.specs.Script.{behind_script, looks}
+use Rattle.run_report.specs.Run.{texts_from, context_part, context_cycles, counts_line, begun, played}
+use Rattle.run_report.specs.Seats.{seat_part, seat_cycles}
+use Rattle.run_report.proofs.Reports.{end, is_behind, is_played, many_behind, parts_are, cycles_are}
+use Rattle.run_report.proofs.Cores.{shows_parts, shows_cycles}
+use Rattle.run_report.proofs.told.Goals as goal
 
 pub returns : goal.returns
 returns c = λ setups ready bounds holds.

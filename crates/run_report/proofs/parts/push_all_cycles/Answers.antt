@@ -1,9 +1,9 @@
 use Rattle.std.proofs.Common.{◌≡◌, ◌<◌, ◌++◌, length, string_bytes, arith, ap, ◌∙◌}
 use Rattle.std.specs.Prelude.{slice_get}
 use Rattle.tinker_texts.specs.Report.{cycles_line}
-use Rattle.tinker_top.specs.Steps.{seat_cycles}
-use Rattle.tinker_top.proofs.Texts.{one_text_more, if_some}
-use Rattle.tinker_top.proofs.running.push_all_cycles.Goals as goal
+use Rattle.run_report.specs.Seats.{seat_cycles}
+use Rattle.run_report.proofs.Texts.{one_text_more, if_some}
+use Rattle.run_report.proofs.parts.push_all_cycles.Goals as goal
 
 pub loop-c-preserved : goal.loop-c-preserved
 loop-c-preserved c =

@@ -6,10 +6,10 @@ use Rattle.context_system.specs.System.{step}
 use Rattle.contexts.specs.Core.{Holds}
 use Rattle.event_script.specs.declared.reading.Line.{Line}
 use Rattle.event_script.specs.declared.reading.Line.TheVariants as event_line
-use Rattle.tinker_top.specs.Script.{behind_line}
-use Rattle.tinker_top.specs.Steps.{AreFor}
-use Rattle.tinker_top.proofs.Scripts.{key_is, has_context}
-use Rattle.tinker_top.proofs.playing.play_line.Goals as goal
+use Rattle.run_report.specs.Script.{behind_line}
+use Rattle.run_report.specs.Seats.{AreFor}
+use Rattle.run_report.proofs.Scripts.{key_is, has_context}
+use Rattle.run_report.proofs.playing.play_line.Goals as goal
 
 pub returns-in-Evict-clause-held : goal.returns-in-Evict-clause-held
 returns-in-Evict-clause-held c = λ s held.

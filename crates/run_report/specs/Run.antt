@@ -1,5 +1,5 @@
 -- What the contexts of a run come to.
-use Rattle.std.specs.Prelude.{ℕ, suc, ◌*◌, ◌++◌, Bool, List, [], ◌∷◌, length, map, Some, None}
+use Rattle.std.specs.Prelude.{ℕ, suc, ◌*◌, ◌++◌, Bool, List, [], ◌∷◌, length}
 use Rattle.machine_desc.specs.Description.{Description}
 use Rattle.timed_meaning.specs.Program.{Meaning, mean}
 use Rattle.timed_meaning.specs.Cycles.{cycles}
@@ -9,15 +9,13 @@ use Rattle.image_resched.specs.Laws.{Forms}
 use Rattle.block_steps.specs.Steps.{counted}
 use Rattle.paging.specs.Pages.{Paging}
 use Rattle.context_system.specs.Context.{Setup, running}
-use Rattle.context_system.specs.Needs.{Run, first_without}
+use Rattle.context_system.specs.Needs.{Run}
 use Rattle.context_system.specs.System.{System, first, play, rounds}
 use Rattle.tinker_words.specs.declared.settings.Number.TheVariants.{Frames, Saved, Bound, Limit}
 use Rattle.tinker_words.specs.Settings.{Settings, number}
 use Rattle.tinker_texts.specs.Report.{part, cycles_line, pages_line}
-use Rattle.tinker_texts.specs.Refusals.{context_name, no_unit_text}
 use Rattle.event_script.specs.declared.reading.Line.{Line}
-use Rattle.tinker_top.specs.Outcome.{Outcome, says, refused}
-use Rattle.tinker_top.specs.Script.{behind_script, looks}
+use Rattle.run_report.specs.Script.{behind_script, looks}
 
 -- what a context is given by the settings, an image, a generation and an input, where `forms` gives images in other generations
 abbrev pub context_of : Forms → Settings → Image → Description → (input : List ℕ) → Setup
@@ -70,10 +68,3 @@ report s lines setups =
     looks (begun s setups) lines
     ++ (texts_from (λ i x. context_part i s.dump x) 0 setups
     ++ (texts_from context_cycles 0 setups ++ counts_line (played s lines setups).paging))
-
--- the report is put out, or the contexts are refused
-abbrev pub run_of : Settings → List Setup → List Line → Outcome
-run_of s setups lines = elim (first_without 0 (map runs_as setups)) [
-  | Some lack ↦ refused (context_name lack.0) (no_unit_text lack.1)
-  | None ↦ says 0 (report s lines setups)
-]

@@ -1,7 +1,7 @@
 use Rattle.std.proofs.Common.{◌<◌, length, string_bytes, arith}
-use Rattle.tinker_top.specs.Steps.{seat_part}
-use Rattle.tinker_top.proofs.Texts.{one_text_more}
-use Rattle.tinker_top.proofs.running.push_parts.Goals as goal
+use Rattle.run_report.specs.Seats.{seat_part}
+use Rattle.run_report.proofs.Texts.{one_text_more}
+use Rattle.run_report.proofs.parts.push_parts.Goals as goal
 
 pub loop-c-preserved : goal.loop-c-preserved
 loop-c-preserved c =

@@ -3,8 +3,8 @@ ghost use Rattle.std.specs.Prelude.{◌≡◌, ◌<◌, ◌++◌, [], ◌∷◌,
 ghost use Rattle.context_system.specs.System.{System};
 ghost use Rattle.contexts.specs.Core.{Holds, RunsStill};
 ghost use Rattle.tinker_texts.specs.Looks.{registers_text};
-ghost use Rattle.tinker_top.specs.Script.{behind_line, behind_script, looks};
-ghost use Rattle.tinker_top.specs.Steps.{AreFor, seat_look, shown_of};
+ghost use Rattle.run_report.specs.Script.{behind_line, behind_script, looks};
+ghost use Rattle.run_report.specs.Seats.{AreFor, seat_look, shown_of};
 
 use contexts::{Core, Event};
 use event_script::Line;

@@ -1,0 +1,5 @@
+pub mod Texts
+pub mod Reports
+pub mod Cores
+pub mod Scripts
+pub mod Given

@@ -1,0 +1,4 @@
+pub mod Script
+pub mod Run
+pub mod Setups
+pub mod Seats
