@@ -8,3 +8,4 @@ pub mod GuardedIn
 pub mod Packing
 pub mod Issues
 pub mod Bounds
+pub mod OperationNames

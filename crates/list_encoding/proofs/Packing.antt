@@ -7,11 +7,12 @@ use Rattle.list_encoding.specs.Opcodes.{opcode_of}
 use Rattle.list_encoding.specs.Fields.{fields_of}
 use Rattle.list_encoding.specs.Word.{HasFields, HasReading}
 use Rattle.list_encoding.specs.Bits.{bits}
+use Rattle.list_encoding.specs.Written.{mark, word_of}
 
--- the word of eight fields
-abbrev pub packed : (head unit pause opcode guard d s tail : ℕ) → ℕ
+-- the sum of eight fields at their places
+abbrev packed : (head unit pause opcode guard d s tail : ℕ) → ℕ
 packed head unit pause opcode guard d s tail =
-    ((((((head * 2 ^ 4 + unit) * 2 ^ 5 + pause) * 2 ^ 7 + opcode) * 2 ^ 5 + guard) * 2 ^ 5 + d) * 2 ^ 5 + s) * 2 ^ 32 + tail
+    head * 2 ^ 63 + unit * 2 ^ 59 + pause * 2 ^ 54 + opcode * 2 ^ 47 + guard * 2 ^ 42 + d * 2 ^ 37 + s * 2 ^ 32 + tail
 
 pub record Unpacked (word head unit pause opcode guard d s tail : ℕ) : Type 0 where
   pub head_is : bits 63 1 word ≡ head
@@ -36,11 +37,6 @@ unpacked head unit pause opcode guard d s tail p q r t u v w x = record {
   tail_is = omega arith;
 }
 
--- a mark as one bit
-abbrev pub mark : Bool → ℕ
-mark true = 1
-mark false = 0
-
 marked : (b : Bool) (n : ℕ) → n ≡ mark b → nat_eq n 1 ≡ b
 marked true n h = ap (λ k. nat_eq k 1) h
 marked false n h = ap (λ k. nat_eq k 1) h
@@ -58,10 +54,10 @@ pub record Fit (f : Fields) : Type 0 where
 
 -- the word of a reading's fields has the reading
 pub packed_reading : (c : Coded) (f : Fields) → f ≡ fields_of c.guarded.op → c.guarded.guard < 32 → Fit f →
-    HasReading (packed (mark c.head) c.unit c.pause (opcode_of f.mnemonic) c.guarded.guard f.d f.s f.tail) c
+    HasReading (word_of c.head c.unit c.pause c.guarded.guard f) c
 packed_reading c f same guard fit =
     let u = unpacked (mark c.head) c.unit c.pause (opcode_of f.mnemonic) c.guarded.guard f.d f.s f.tail (mark_below c.head) c.unit_in_range c.pause_in_range fit.opcode guard fit.d fit.s fit.tail in
-    let word = packed (mark c.head) c.unit c.pause (opcode_of f.mnemonic) c.guarded.guard f.d f.s f.tail in
+    let word = word_of c.head c.unit c.pause c.guarded.guard f in
     let fields : HasFields word f = record { opcode = u.opcode_is; d = u.d_is; s = u.s_is; tail = u.tail_is } in
     record {
       head = marked c.head (bits 63 1 word) u.head_is;

@@ -1,5 +1,9 @@
 pub mod Bits
 pub mod Opcodes
+pub mod Names
+pub mod Lettered
+pub mod Shapes
+pub mod Written
 pub mod Fields
 pub mod Operands
 pub mod Word

@@ -3,7 +3,9 @@
 // Its contract promises that a word has at most one reading and a reading one word (specs/Word.antt, over the table of
 // opcodes and fields in specs/Opcodes.antt and specs/Fields.antt), that `decode` and `encode` find them, and that
 // `times` sums the cycles of the MultiOps (specs/Times.antt). The guarded operation of a word is a function too
-// (specs/Reading.antt). `laws` says what holds of these definitions.
+// (specs/Reading.antt), and so is the word of an operation (specs/Written.antt). Beside the opcodes stand each operation's
+// name and the operands that it is written with (specs/Names.antt, specs/Shapes.antt): `name` and `named` go from one to
+// the other. `laws` says what holds of these definitions.
 #![tactic(auto)]
 
 ghost use Rattle.std.specs.Prelude.{◌<◌};
@@ -11,7 +13,9 @@ ghost use Rattle.std.specs.Prelude.{◌<◌};
 mod bits;
 pub mod fields;
 pub mod laws;
+pub mod names;
 pub mod opcodes;
+pub mod shapes;
 mod timing;
 mod word;
 

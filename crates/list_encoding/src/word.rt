@@ -2,6 +2,8 @@
 ghost use Rattle.std.specs.Prelude.{◌≡◌, ◌<◌, IfSome, IfNone, option_map};
 ghost use Rattle.list_encoding.specs.Word.{HasFields, HasReading, IsReadingOf, is_head as is_head_of, pause_in};
 ghost use Rattle.list_encoding.specs.Reading.{guarded_in};
+ghost use Rattle.list_encoding.specs.Fields.{fields_of};
+ghost use Rattle.list_encoding.specs.Written.{word_of};
 
 use super::Coded;
 use super::bits::{append, bits};
@@ -57,7 +59,8 @@ pub fn pause(word: u64) -> u8
 
 /// The word of a reading.
 pub fn encode(c: &Coded) -> u64
-    ensures { HasReading result c.now }
+    ensures reading { HasReading result c.now }
+    ensures word { result ≡ word_of c.now.head c.now.unit c.now.pause c.now.guarded.guard (fields_of c.now.guarded.op) }
 {
     let fields = operation_fields(&c.guarded.op);
     let place = append(append(c.head as u64, 4, c.unit as u64), 5, c.pause as u64);

@@ -15,8 +15,8 @@ use Rattle.list_encoding.specs.Bits.{bits}
 use Rattle.list_encoding.specs.Opcodes.{opcode_of}
 use Rattle.list_encoding.specs.Fields.{fields_of}
 use Rattle.list_encoding.specs.Word.{HasReading}
-use Rattle.list_encoding.proofs.Packing.{packed, Fit, packed_reading}
-use Rattle.workload.specs.Words.{head_word, serial_word}
+use Rattle.list_encoding.proofs.Packing.{Fit, packed_reading}
+use Rattle.workload.specs.Words.{serial_word}
 
 -- the latencies of t1 are 1 to 32
 pub latency_range : (o : Op) → (1 ≤ latency_of t1 (latency_kind o)) × (latency_of t1 (latency_kind o) ≤ 32)
@@ -42,10 +42,7 @@ guard_below g =
 pub reads : (g : Guarded) → Fit (fields_of g.op) → HasReading (serial_word g.guard g.op) (serial g)
 unfolding serial_word
 reads g fit =
-    let f = fields_of g.op in
-    let c = serial g in
-    let same : packed 1 c.unit c.pause (opcode_of f.mnemonic) g.guard f.d f.s f.tail ≡ head_word c.unit c.pause g.guard f = omega arith in
-    subst (λ w. HasReading w c) same (packed_reading c f refl (guard_below g) fit)
+    packed_reading (serial g) (fields_of g.op) refl (guard_below g) fit
 
 -- and is a word
 pub is_word : (g : Guarded) → Fit (fields_of g.op) → serial_word g.guard g.op < 2 ^ 64
@@ -60,27 +57,3 @@ is_word g fit =
     let s = fit.s in
     let tail = fit.tail in
     omega arith
-
--- a word is put together from its fields
-gathered : (word unit pause guard : ℕ) (f : Fields) → word < 2 ^ 64 → bits 63 1 word ≡ 1 → bits 59 4 word ≡ unit → bits 54 5 word ≡ pause →
-    bits 42 5 word ≡ guard → bits 47 7 word ≡ opcode_of f.mnemonic → bits 37 5 word ≡ f.d → bits 32 5 word ≡ f.s → bits 0 32 word ≡ f.tail →
-    word ≡ head_word unit pause guard f
-gathered word unit pause guard f small a b c d e h k l = omega arith
-
--- the only word of that reading
-pub word_is : (word : ℕ) (g : Guarded) (c : Coded) → word < 2 ^ 64 → HasReading word c → c.head ≡ true →
-    c.unit ≡ unit_number (unit_kind g.op) →
-    c.pause ≡ latency_of t1 (latency_kind g.op) - 1 → c.guarded ≡ g → word ≡ serial_word g.guard g.op
-unfolding serial_word
-word_is word g c small r p q t same =
-    let f = fields_of g.op in
-    let head = eqb-true (bits 63 1 word) 1 (r.head ∙ p) in
-    let unit = r.unit ∙ q in
-    let pause = r.pause ∙ t in
-    let guard = r.guard ∙ ap (λ (o : Guarded). o.guard) same in
-    let opcode = r.fields.opcode ∙ ap (λ (o : Guarded). opcode_of (fields_of o.op).mnemonic) same in
-    let d = r.fields.d ∙ ap (λ (o : Guarded). (fields_of o.op).d) same in
-    let s = r.fields.s ∙ ap (λ (o : Guarded). (fields_of o.op).s) same in
-    let tail = r.fields.tail ∙ ap (λ (o : Guarded). (fields_of o.op).tail) same in
-    gathered word (unit_number (unit_kind g.op)) (latency_of t1 (latency_kind g.op) - 1) g.guard f
-    small head unit pause guard opcode d s tail

@@ -1,24 +1,18 @@
 -- The words of operations that issue one by one under t1.
-use Rattle.std.specs.Prelude.{ℕ, ◌+◌, ◌-◌, ◌*◌, ◌^◌, List, map}
+use Rattle.std.specs.Prelude.{ℕ, ◌-◌, ◌*◌, true, List, map}
 use Rattle.std.specs.List.{range_with_len}
 use Rattle.operation.specs.declared.Op.{Op}
 use Rattle.operation.specs.Places.{unit_kind, unit_number, latency_kind}
 use Rattle.machine_desc.specs.Description.{latency_of}
 use Rattle.machine_desc.specs.BuiltIn.{t1}
-use Rattle.list_encoding.specs.declared.fields.Fields.{Fields}
-use Rattle.list_encoding.specs.Opcodes.{opcode_of}
 use Rattle.list_encoding.specs.Fields.{fields_of}
+use Rattle.list_encoding.specs.Written.{word_of}
 use Rattle.workload.specs.Draws.{after}
 use Rattle.workload.specs.Operations.{drawn_operation, drawn_guard}
 
--- a word with the head mark, of these fields
-abbrev pub head_word : (unit pause guard : ℕ) → Fields → ℕ
-head_word unit pause guard f =
-    2 ^ 63 + unit * 2 ^ 59 + pause * 2 ^ 54 + opcode_of f.mnemonic * 2 ^ 47 + guard * 2 ^ 42 + f.d * 2 ^ 37 + f.s * 2 ^ 32 + f.tail
-
 -- an operation that is a MultiOp of its own, and has landed when the next one issues: it pauses for its latency minus one
 unfoldable pub serial_word : (guard : ℕ) → Op → ℕ
-serial_word guard o = head_word (unit_number (unit_kind o)) (latency_of t1 (latency_kind o) - 1) guard (fields_of o)
+serial_word guard o = word_of true (unit_number (unit_kind o)) (latency_of t1 (latency_kind o) - 1) guard (fields_of o)
 
 -- the word of the operation that is drawn from a state on
 abbrev pub drawn_word : ℕ → ℕ
