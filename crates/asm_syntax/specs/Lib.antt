@@ -1,0 +1,13 @@
+pub mod Lexemes
+pub mod Spellings
+pub mod Operands
+pub mod Fitting
+pub mod Numbers
+pub mod Meanings
+pub mod Statements
+pub mod Reading
+pub mod Beginnings
+pub mod StatementReading
+pub mod Ranges
+pub mod Views
+pub mod Laws
