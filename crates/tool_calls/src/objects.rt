@@ -87,7 +87,7 @@ type Case = (&'static str, Changed, Option<ObjectFault>);
 
 /// Files and their first broken rule. In version 1 the names begin at 53, 58 and 63, the blocks at 69 and 79, the words at 89,
 /// the references at 121 and 129, the label at 137 and the initial bytes at 145; in version 2 each nine bytes behind that.
-const FILES: [Case; 95] = [
+const FIRST: [Case; 12] = [
     ("the file", (ONE, 147, &[]), None),
     ("the file with busy times", (TWO, 156, &[]), None),
     // Beginning and length.
@@ -125,6 +125,10 @@ const FILES: [Case; 95] = [
     ),
     ("a byte less", (ONE, 146, &[]), Some(ObjectFault::Length)),
     ("a byte more", (ONE, 148, &[]), Some(ObjectFault::Length)),
+];
+
+/// The second part of them.
+const SECOND: [Case; 12] = [
     (
         "the letters of the other version",
         (ONE, 147, &[(3, &[0x50])]),
@@ -197,6 +201,10 @@ const FILES: [Case; 95] = [
         (ONE, 147, &[(4, &[0])]),
         Some(ObjectFault::Field(4)),
     ),
+];
+
+/// The third part of them.
+const THIRD: [Case; 12] = [
     (
         "width 17",
         (ONE, 147, &[(4, &[0x11])]),
@@ -245,6 +253,10 @@ const FILES: [Case; 95] = [
         (TWO, 156, &[(20, &[1])]),
         Some(ObjectFault::Field(19)),
     ),
+];
+
+/// The fourth part of them.
+const FOURTH: [Case; 12] = [
     (
         "all busy times 1, and a width of 0",
         (TWO, 156, &[(20, &[1]), (4, &[0])]),
@@ -298,6 +310,10 @@ const FILES: [Case; 95] = [
         (ONE, 147, &[(77, &[0, 2])]),
         Some(ObjectFault::Field(29)),
     ),
+];
+
+/// The fifth part of them.
+const FIFTH: [Case; 12] = [
     (
         "a count less, with busy times",
         (TWO, 156, &[(86, &[0, 2])]),
@@ -359,6 +375,10 @@ const FILES: [Case; 95] = [
         (ONE, 147, &[(59, b"main")]),
         Some(ObjectFault::Field(58)),
     ),
+];
+
+/// The sixth part of them.
+const SIXTH: [Case; 12] = [
     (
         "the same name again, with busy times",
         (TWO, 156, &[(68, b"main")]),
@@ -416,6 +436,10 @@ const FILES: [Case; 95] = [
         Some(ObjectFault::Field(83)),
     ),
     ("an address of 0", (ONE, 147, &[(73, &[0, 0, 0, 0])]), None),
+];
+
+/// The seventh part of them.
+const SEVENTH: [Case; 12] = [
     (
         "a block that is not within a page",
         (ONE, 147, &[(73, &[0, 0, 1, 0xff])]),
@@ -481,6 +505,10 @@ const FILES: [Case; 95] = [
         (ONE, 147, &[(125, &[0, 0, 0, 3])]),
         Some(ObjectFault::Field(125)),
     ),
+];
+
+/// The eighth part of them.
+const EIGHTH: [Case; 11] = [
     (
         "the last reference to a name that is not there",
         (TWO, 156, &[(142, &[0, 0, 0, 3])]),
@@ -561,8 +589,57 @@ fn is_answered(alloc: Global, case: &Changed, want: Option<ObjectFault>) -> bool
 }
 
 #[test]
-fn the_first_broken_rule_is_told(rt: HostRuntime) {
-    for (name, case, want) in &FILES {
+fn the_first_files_are_answered(rt: HostRuntime) {
+    for (name, case, want) in &FIRST {
+        assert!(rt; is_answered(rt.alloc(), case, *want), "{name}");
+    }
+}
+
+#[test]
+fn the_second_files_are_answered(rt: HostRuntime) {
+    for (name, case, want) in &SECOND {
+        assert!(rt; is_answered(rt.alloc(), case, *want), "{name}");
+    }
+}
+
+#[test]
+fn the_third_files_are_answered(rt: HostRuntime) {
+    for (name, case, want) in &THIRD {
+        assert!(rt; is_answered(rt.alloc(), case, *want), "{name}");
+    }
+}
+
+#[test]
+fn the_fourth_files_are_answered(rt: HostRuntime) {
+    for (name, case, want) in &FOURTH {
+        assert!(rt; is_answered(rt.alloc(), case, *want), "{name}");
+    }
+}
+
+#[test]
+fn the_fifth_files_are_answered(rt: HostRuntime) {
+    for (name, case, want) in &FIFTH {
+        assert!(rt; is_answered(rt.alloc(), case, *want), "{name}");
+    }
+}
+
+#[test]
+fn the_sixth_files_are_answered(rt: HostRuntime) {
+    for (name, case, want) in &SIXTH {
+        assert!(rt; is_answered(rt.alloc(), case, *want), "{name}");
+    }
+}
+
+#[test]
+fn the_seventh_files_are_answered(rt: HostRuntime) {
+    for (name, case, want) in &SEVENTH {
+        assert!(rt; is_answered(rt.alloc(), case, *want), "{name}");
+    }
+}
+
+#[test]
+fn the_eighth_files_are_answered(rt: HostRuntime) {
+    for (name, case, want) in &EIGHTH {
         assert!(rt; is_answered(rt.alloc(), case, *want), "{name}");
     }
 }
