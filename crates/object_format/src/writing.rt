@@ -8,7 +8,7 @@ ghost use Rattle.machine_desc.specs.Value.{description_of};
 ghost use Rattle.object_format.specs.Objects.{module_of};
 ghost use Rattle.object_format.specs.Module.{IsModule};
 ghost use Rattle.object_format.specs.Laws.{HoldsModule};
-ghost use Rattle.object_format.specs.Written.{IsWritable};
+ghost use Rattle.object_format.specs.Written.{IsWritable, beginning_for};
 ghost use Rattle.image_format.specs.Bytes.{needs_two, busy_bytes, description_bytes};
 ghost use Rattle.object_format.specs.Bytes.{name_bytes, address_bytes, block_bytes, pair_bytes, table_counts, counts, data_sizes, sizes, numbers as numbers_of, code, uses, tables, magic as magic_of, beginning, body, bytes_of};
 
@@ -240,7 +240,7 @@ fn push_description(bytes: &mut Vec<u8>, description: &Mdes) -> Result<(), Alloc
 }
 
 fn push_beginning(bytes: &mut Vec<u8>, description: &Mdes) -> Result<(), AllocError>
-    ensures { OnOk result (bytes.new.items ≡ bytes.old.items ++ (magic_of (needs_two (description_of description.now)) ++ description_bytes (needs_two (description_of description.now)) (description_of description.now))) }
+    ensures { OnOk result (bytes.new.items ≡ bytes.old.items ++ beginning_for (description_of description.now)) }
 {
     push_magic(bytes, description)?;
     push_description(bytes, description)?;
